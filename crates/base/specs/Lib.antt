@@ -1,0 +1,5 @@
+pub mod Fill
+pub mod Lists
+pub mod Loops
+pub mod Part
+pub mod Pick

@@ -1,0 +1,7 @@
+pub mod Answers
+pub mod First
+pub mod Grammar
+pub mod Limits
+pub mod Records
+pub mod Rooms
+pub mod Tokens
