@@ -1,13 +1,13 @@
 -- Grammars written as productions, and their bytes, for the examples.
-use Prim.Native.Nat.{ℕ, zero, suc}
+use Prim.Native.Nat.{ℕ, suc}
 use mathlib.Core.List.{List, [], _∷_, _++_}
 use lib.ListN.{replicate}
 use Rattle.rules.specs.Grammar.{Symbol, nonterminal, terminal}
-use Rattle.rules.specs.Table.{TableRecord, tableRecord, tableOf, twoBytes}
+use Rattle.rules.specs.Table.{TableRecord, tableOf, twoBytes}
 use Rattle.rules.specs.Records.{records}
 use Rattle.rules.specs.States.{State, Outcome, done, refused}
-use Rattle.rules.specs.Limits.{Limits, limits}
-use Rattle.rules.specs.Build.{BuildResult, build, constructed}
+use Rattle.rules.specs.Limits.{limits}
+use Rattle.rules.specs.Build.{build, constructed}
 use Rattle.rules.specs.Answers.{Said, buildSaid}
 
 infix 4 _⟶_

@@ -9,8 +9,8 @@ use Rattle.rules.specs.States.{State, Outcome, done, refused, lr0States}
 use Rattle.rules.specs.Build.{BuildResult, build}
 use Rattle.rules.specs.Drive.{DriveResult, drive}
 use Rattle.rules.specs.Table.{tableBytes}
-use Rattle.rules.specs.Answers.{Said, built, refused as refusedWith, accepted, stopped, buildSaid, driveSaid}
-use Rattle.rules.proofs.Coding.{Production, _⟶_, N, a, b, c, d, e, coded, said, table, s, g, r}
+use Rattle.rules.specs.Answers.{Said, built, refused as refusedWith, accepted, stopped, driveSaid}
+use Rattle.rules.proofs.Coding.{_⟶_, N, a, b, c, d, e, coded, said, table, s, g, r}
 
 -- ---- 1. S→A; A→a
 unfoldable pub example1 : List ℕ

@@ -1,10 +1,8 @@
 -- Grammars that tell the readings of document 01's construction apart, by computation.
-use Prim.Native.Nat.{ℕ}
 use mathlib.Core.Path.{_≡_, refl}
-use mathlib.Core.List.{List, [], _∷_}
-use lib.ListN.{length}
-use Rattle.rules.specs.Answers.{Said, built, refused}
-use Rattle.rules.proofs.Coding.{Production, _⟶_, N, a, b, c, d, e, f, coded, said}
+use mathlib.Core.List.{[], _∷_}
+use Rattle.rules.specs.Answers.{built, refused}
+use Rattle.rules.proofs.Coding.{_⟶_, N, a, b, c, d, e, f, coded, said}
 use Rattle.rules.specs.Grammar.{terminal}
 
 -- a clone copies the sets and links of the moment; with a fresh copy the count would be 2. S→BCa; C→b; B→, Bb; C→

@@ -1,7 +1,6 @@
 -- The builder: the whole call, for every mode, every byte string, and every room. It gives the answer and what it leaves in the table
 -- room and in the work room. Refusals 1 to 3 come first, then 4 to 8, then 9 to 12 where the construction meets them, then 13, then 14.
 use Prim.Native.Nat.{ℕ, zero, suc, _*_}
-use mathlib.Core.Bool.{Bool, true, false}
 use mathlib.Core.List.{List}
 use lib.ListN.{length}
 use lib.Dec.{ltb}

@@ -1,8 +1,8 @@
 -- The driver: the whole call, over grammar bytes, table bytes, tokens, the rooms and the step limit. Refusals 3 to 8 come first, then 15,
 -- then 16, then the run. Before the run begins neither stack nor list changes.
-use Prim.Native.Nat.{ℕ, zero, suc, _+_, _-_, _%_}
-use mathlib.Core.Bool.{Bool, true, false, _&&_, _||_, not}
-use mathlib.Core.List.{List, [], _∷_}
+use Prim.Native.Nat.{ℕ, _-_, _%_}
+use mathlib.Core.Bool.{Bool, _&&_, _||_, not}
+use mathlib.Core.List.{List}
 use lib.ListN.{length, getD}
 use lib.Dec.{eqb, leb, ltb}
 use Rattle.base.specs.Pick.{pick}
@@ -13,10 +13,8 @@ use Rattle.rules.specs.Records.{Grammar, records}
 use Rattle.rules.specs.Grammar.{grammarAnswer, productionCount, terminalCount, nonterminalCount}
 use Rattle.rules.specs.Table.{TableRecord, tableRecord, tableRecords, isFor, tableIn}
 use Rattle.rules.specs.Run.{RunResult, run}
-use Rattle.rules.specs.declared.GrammarRefusal.{GrammarRefusal}
 use Rattle.rules.specs.declared.GrammarAnswer.{GrammarAnswer}
 use Rattle.rules.specs.declared.GrammarAnswer.the-variants.{Coded, Refused}
-use Rattle.rules.specs.declared.RunAnswer.{RunAnswer}
 use Rattle.rules.specs.declared.DriveAnswer.{DriveAnswer}
 use Rattle.rules.specs.declared.DriveAnswer.the-variants.{NoGrammar, NoTable, NoToken, Ran}
 

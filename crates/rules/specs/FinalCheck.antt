@@ -2,21 +2,19 @@
 --
 -- The start item has Eof; a closure hands on by `first1`; a moved dot carries its set along. The least sets are kept in states of their
 -- own, with the same items and links. A state that is not reached has only empty sets there, and a reduction lacks no token of those.
-use Prim.Native.Nat.{ℕ, zero, suc, _+_, _*_}
-use mathlib.Core.Bool.{Bool, true, false, _&&_, _||_, not}
+use Prim.Native.Nat.{ℕ, _+_, _*_}
+use mathlib.Core.Bool.{Bool, false, _&&_, _||_, not}
 use mathlib.Core.List.{List, [], _∷_, map}
 use lib.ListN.{length, getD, set}
 use lib.Dec.{eqb, ltb}
 use Rattle.base.specs.Pick.{pick}
 use Rattle.base.specs.Loops.{firstFrom, until}
-use Rattle.base.specs.Lists.{upTo, keep, someOf, eachOf, foldOver}
+use Rattle.base.specs.Lists.{upTo, eachOf, foldOver}
 use Rattle.rules.specs.Records.{Grammar, at, isTerminal}
 use Rattle.rules.specs.Tokens.{TokenSet, join, within, eof}
 use Rattle.rules.specs.Grammar.{atEnd, isLeftSideOf, symbolsBehind, terminalCount}
 use Rattle.rules.specs.First.{Sets, first1, firstSets}
 use Rattle.rules.specs.States.{Entry, State, Outcome, done, refused, noSet, itemCount, conflictsAt}
-use Rattle.rules.specs.declared.StateIndex.{StateIndex}
-use Rattle.rules.specs.declared.BuildRefusal.{BuildRefusal}
 use Rattle.rules.specs.declared.BuildRefusal.the-variants.{FinalCheck}
 
 -- ---- what an entry with a least set asks of other entries

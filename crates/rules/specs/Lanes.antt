@@ -3,18 +3,18 @@
 -- The lane table has a row for each state and a column for each action: the tokens that the state contributes to the action. A state
 -- on the way back is linked to its successors. S→X b, S→c X d, X→e: from the state of X→e·, reached from states 0 and 2, the trace
 -- goes back over e and enters b at state 0 and d at state 2; both have the state of X→e· as successor.
-use Prim.Native.Nat.{ℕ, zero, suc, _+_, _-_}
+use Prim.Native.Nat.{ℕ, zero, suc, _+_, _-_, _*_}
 use mathlib.Core.Bool.{Bool, true, false, _&&_, _||_, not}
 use mathlib.Core.List.{List, [], _∷_, _++_, map}
 use lib.ListN.{length, getD, set, replicate}
-use lib.Dec.{eqb, ltb}
+use lib.Dec.{eqb}
 use Rattle.base.specs.Pick.{pick}
 use Rattle.base.specs.Lists.{upTo, keep, someOf, eachOf, foldOver, isEmpty}
 use Rattle.rules.specs.Records.{Grammar, at}
 use Rattle.rules.specs.Tokens.{TokenSet, has, single, join, disjoint, without, eof}
-use Rattle.rules.specs.Grammar.{Symbol, nonterminal, terminal, symbolOf, atStart, isBefore, symbolsBehind, start, terminalCount}
+use Rattle.rules.specs.Grammar.{Symbol, nonterminal, symbolOf, atStart, isBefore, symbolsBehind, start, terminalCount}
 use Rattle.rules.specs.First.{Sets, first0}
-use Rattle.rules.specs.States.{Entry, State, reductions, shifts, itemCount}
+use Rattle.rules.specs.States.{Entry, State, reductions, shifts}
 
 -- ---- actions
 pub data Action : Type 0 where
@@ -143,8 +143,7 @@ module _ (g : Grammar) (sets : Sets) (states : List State) where
   enterStart s c i trace = pick (eqb (at g i .symbol) (start g)) (onTable (enter s c (eof (terminalCount g))) trace) trace
 
   -- The trace of column c back from item i in state s; lane/mod.rs: continue_trace. Each call that does not stop at once visits a
-  -- pair of state and item that was not visited, and such a pair is an entry of a state, so as many nested calls as there are
-  -- entries, and one that stops, suffice.
+  -- pair of state and item that was not visited, so as many nested calls as there are pairs, and one that stops, suffice.
   unfoldable mutual
     unfolding wasVisited visit at symbolOf atStart predecessors addSuccessor itemsBefore enter tokensPast mayBeEmpty enterStart foldOver
 
@@ -186,10 +185,10 @@ module _ (g : Grammar) (sets : Sets) (states : List State) where
 
   -- lane/mod.rs: start_trace. A shift enters its own terminal at the state. A reduction enters an empty set, then goes back
   unfoldable pub traceAction : ℕ → ℕ → Action → LaneTable → LaneTable
-  unfolding enter single itemCount atStart unShift unClose
+  unfolding enter single atStart unShift unClose
   traceAction s c (shift t) table = enter s c (single t) table
   traceAction s c (reduce i) table =
-      let fuel : ℕ = itemCount states + 1 in
+      let fuel : ℕ = length states * length g + 1 in
       let begun : Trace = record { table = enter s c 0 table; visited = replicate (length states) 0 } in
       let ended : Trace = elim (atStart g i) [ true ↦ unClose fuel c s i begun | false ↦ unShift fuel c s i begun ] in
       ended .table

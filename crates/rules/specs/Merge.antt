@@ -3,13 +3,13 @@
 --
 -- S→aXc, aYd, bXd, bYc; X→e; Y→e: state 6 reduces e to X or Y. Its predecessors 2 and 3 contribute c d and d c. State 2 joins with 6;
 -- 3 does not, so it gets a clone of 6.
-use Prim.Native.Nat.{ℕ, zero, suc, _+_, _-_}
-use mathlib.Core.Bool.{Bool, true, false, _&&_, _||_, not}
+use Prim.Native.Nat.{ℕ, zero, suc, _+_}
+use mathlib.Core.Bool.{Bool, true, false, _&&_, not}
 use mathlib.Core.List.{List, [], _∷_, _++_, map}
-use lib.ListN.{length, getD, set, replicate}
+use lib.ListN.{length, getD, set}
 use lib.Dec.{eqb, leb, ltb}
 use Rattle.base.specs.Pick.{pick}
-use Rattle.base.specs.Lists.{upTo, numbersFrom, keep, someOf, placeOf, foldOver, isEmpty}
+use Rattle.base.specs.Lists.{upTo, keep, placeOf, foldOver, isEmpty}
 use Rattle.rules.specs.Limits.{Limits}
 use Rattle.rules.specs.Records.{Grammar}
 use Rattle.rules.specs.Tokens.{TokenSet, has, single, join}
@@ -17,8 +17,6 @@ use Rattle.rules.specs.Grammar.{atEnd}
 use Rattle.rules.specs.First.{Sets, firstSets}
 use Rattle.rules.specs.States.{Entry, State, Outcome, done, refused, itemCount, conflictCount, lr0States}
 use Rattle.rules.specs.Lanes.{Action, isReduce, actionsAt, LaneTable, Row, rowOf, columnOf, laneTable, joinColumns, pairwiseDisjoint, allColumns, rowsDisjoint, beachheads}
-use Rattle.rules.specs.declared.StateIndex.{StateIndex}
-use Rattle.rules.specs.declared.BuildRefusal.{BuildRefusal}
 use Rattle.rules.specs.declared.BuildRefusal.the-variants.{States as TooManyStates, Items as TooManyItems, Actions as TooManyActions, Conflicts}
 
 pub record Merge : Type 0 where

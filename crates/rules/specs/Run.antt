@@ -4,9 +4,9 @@
 -- Each move tries 17, 21, 18, 19, 20 in this order, all before anything is put. A cell of stack or list holds the last number put
 -- there, or what it had: popped cells keep theirs until something is put there.
 use Prim.Native.Nat.{ℕ, zero, suc, _+_, _-_}
-use mathlib.Core.Bool.{Bool, true, false, _&&_, _||_, not}
+use mathlib.Core.Bool.{Bool, _&&_}
 use mathlib.Core.Option.{Option, none, some}
-use mathlib.Core.List.{List, []}
+use mathlib.Core.List.{List}
 use lib.ListN.{length, getD, set}
 use lib.Dec.{eqb, leb}
 use Rattle.base.specs.Pick.{pick}

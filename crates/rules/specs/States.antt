@@ -20,8 +20,8 @@ use Rattle.base.specs.Loops.{until}
 use Rattle.base.specs.Lists.{upTo, sum, keep, someOf, eachOf, placeOf, foldOver, isEmpty}
 use Rattle.rules.specs.Limits.{Limits}
 use Rattle.rules.specs.Records.{Grammar, at, isTerminal}
-use Rattle.rules.specs.Tokens.{TokenSet, has, join, disjoint, within, eof, all}
-use Rattle.rules.specs.Grammar.{Symbol, nonterminal, terminal, symbolOf, atEnd, isBefore, symbolsBehind, leftSides, terminalCount, nonterminalCount}
+use Rattle.rules.specs.Tokens.{TokenSet, has, disjoint, within, eof, all}
+use Rattle.rules.specs.Grammar.{Symbol, nonterminal, terminal, atEnd, isBefore, symbolsBehind, leftSides, terminalCount, nonterminalCount}
 use Rattle.rules.specs.First.{Sets, setOf, joinAt, first1, firstSets}
 use Rattle.rules.specs.declared.BuildRefusal.{BuildRefusal}
 use Rattle.rules.specs.declared.BuildRefusal.the-variants.{States as TooManyStates, Items as TooManyItems, Conflicts}

@@ -2,8 +2,8 @@
 -- state or production. They ascend by state, kind, symbol. A reduction has a record for each token, Eof being n.
 --
 -- S→A, A→a has the records 0 s 0 2, 0 g 1 1, 1 r 1 0, 2 r 1 1.
-use Prim.Native.Nat.{ℕ, zero, suc, _+_, _*_, _/_, _%_}
-use mathlib.Core.Bool.{Bool, true, false, _&&_}
+use Prim.Native.Nat.{ℕ, zero, suc, _+_, _/_, _%_}
+use mathlib.Core.Bool.{Bool, _&&_}
 use mathlib.Core.Option.{Option, none, some}
 use mathlib.Core.List.{List, [], _∷_, _++_, map}
 use lib.ListN.{length, getD, drop}
@@ -12,7 +12,7 @@ use Rattle.base.specs.Pick.{pick}
 use Rattle.base.specs.Lists.{upTo, keep, concat}
 use Rattle.rules.specs.Records.{Grammar, at, numberAt}
 use Rattle.rules.specs.Tokens.{has}
-use Rattle.rules.specs.Grammar.{Symbol, nonterminal, terminal, isBefore, terminalCount, nonterminalCount}
+use Rattle.rules.specs.Grammar.{nonterminal, terminal, isBefore, terminalCount, nonterminalCount}
 use Rattle.rules.specs.States.{Entry, State, reductions}
 use Rattle.rules.specs.Run.{Act, shift, reduce, noAct, Table}
 
