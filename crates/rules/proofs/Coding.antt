@@ -11,7 +11,6 @@ use Rattle.rules.specs.Build.{build, constructed}
 use Rattle.rules.specs.Answers.{Said, buildSaid}
 
 infix 4 _⟶_
-
 pub record Production : Type 0 where
   pub left : ℕ
   pub right : List Symbol

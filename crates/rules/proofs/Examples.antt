@@ -91,14 +91,14 @@ unfoldable pub example7 : List ℕ
 unfolding coded
 example7 =
     coded
-      ((0 ⟶ N 1 ∷ [])
-        ∷ (1 ⟶ a ∷ N 2 ∷ c ∷ [])
-        ∷ (1 ⟶ a ∷ N 3 ∷ d ∷ [])
-        ∷ (1 ⟶ b ∷ N 2 ∷ d ∷ [])
-        ∷ (1 ⟶ b ∷ N 3 ∷ c ∷ [])
-        ∷ (2 ⟶ e ∷ [])
-        ∷ (3 ⟶ e ∷ [])
-        ∷ [])
+    ((0 ⟶ N 1 ∷ [])
+    ∷ (1 ⟶ a ∷ N 2 ∷ c ∷ [])
+    ∷ (1 ⟶ a ∷ N 3 ∷ d ∷ [])
+    ∷ (1 ⟶ b ∷ N 2 ∷ d ∷ [])
+    ∷ (1 ⟶ b ∷ N 3 ∷ c ∷ [])
+    ∷ (2 ⟶ e ∷ [])
+    ∷ (3 ⟶ e ∷ [])
+    ∷ [])
 
 unfoldable pub countOf : Outcome (List State) → ℕ
 countOf (done states) = length states
@@ -110,21 +110,21 @@ example7-counts = (refl, refl)
 
 -- state 6 has 5 on c, 6 on d; state 13, reached from 3, has 5 on d, 6 on c
 example7-lane : table 0 example7
-  ≡ s 0 0 2 ∷ s 0 1 3 ∷ g 0 1 1
-  ∷ r 1 5 0
-  ∷ s 2 4 6 ∷ g 2 2 4 ∷ g 2 3 5
-  ∷ s 3 4 13 ∷ g 3 2 7 ∷ g 3 3 8
-  ∷ s 4 2 9
-  ∷ s 5 3 10
-  ∷ r 6 2 5 ∷ r 6 3 6
-  ∷ s 7 3 11
-  ∷ s 8 2 12
-  ∷ r 9 5 1
-  ∷ r 10 5 2
-  ∷ r 11 5 3
-  ∷ r 12 5 4
-  ∷ r 13 2 6 ∷ r 13 3 5
-  ∷ []
+    ≡ s 0 0 2 ∷ s 0 1 3 ∷ g 0 1 1
+    ∷ r 1 5 0
+    ∷ s 2 4 6 ∷ g 2 2 4 ∷ g 2 3 5
+    ∷ s 3 4 13 ∷ g 3 2 7 ∷ g 3 3 8
+    ∷ s 4 2 9
+    ∷ s 5 3 10
+    ∷ r 6 2 5 ∷ r 6 3 6
+    ∷ s 7 3 11
+    ∷ s 8 2 12
+    ∷ r 9 5 1
+    ∷ r 10 5 2
+    ∷ r 11 5 3
+    ∷ r 12 5 4
+    ∷ r 13 2 6 ∷ r 13 3 5
+    ∷ []
 unfolding table example7
 example7-lane = refl
 
@@ -142,18 +142,18 @@ unfoldable pub example9 : List ℕ
 unfolding coded
 example9 =
     coded
-      ((0 ⟶ N 1 ∷ [])
-        ∷ (1 ⟶ N 2 ∷ c ∷ [])
-        ∷ (1 ⟶ N 3 ∷ d ∷ [])
-        ∷ (1 ⟶ N 4 ∷ d ∷ [])
-        ∷ (1 ⟶ N 5 ∷ c ∷ [])
-        ∷ (2 ⟶ a ∷ N 6 ∷ [])
-        ∷ (3 ⟶ a ∷ N 7 ∷ [])
-        ∷ (4 ⟶ b ∷ N 6 ∷ [])
-        ∷ (5 ⟶ b ∷ N 7 ∷ [])
-        ∷ (6 ⟶ e ∷ [])
-        ∷ (7 ⟶ e ∷ [])
-        ∷ [])
+    ((0 ⟶ N 1 ∷ [])
+    ∷ (1 ⟶ N 2 ∷ c ∷ [])
+    ∷ (1 ⟶ N 3 ∷ d ∷ [])
+    ∷ (1 ⟶ N 4 ∷ d ∷ [])
+    ∷ (1 ⟶ N 5 ∷ c ∷ [])
+    ∷ (2 ⟶ a ∷ N 6 ∷ [])
+    ∷ (3 ⟶ a ∷ N 7 ∷ [])
+    ∷ (4 ⟶ b ∷ N 6 ∷ [])
+    ∷ (5 ⟶ b ∷ N 7 ∷ [])
+    ∷ (6 ⟶ e ∷ [])
+    ∷ (7 ⟶ e ∷ [])
+    ∷ [])
 
 example9-said : (said 0 example9 ≡ refusedWith 12 1) × (said 1 example9 ≡ built 18 30)
 unfolding said example9

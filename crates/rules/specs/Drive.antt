@@ -56,9 +56,9 @@ malformed l g rs i =
     let r : TableRecord = tableAt rs i in
     not (eqb (r .zeroByte) 0)
     || (ltb 2 (r .kind)
-      || (leb (l .states) (r .state)
-        || (badSymbol g r
-          || (badTarget l g r || ((not (eqb i 0) && not (ascends (tableAt rs (i - 1)) r)) || reducesShifted rs r)))))
+    || (leb (l .states) (r .state)
+    || (badSymbol g r
+    || (badTarget l g r || ((not (eqb i 0) && not (ascends (tableAt rs (i - 1)) r)) || reducesShifted rs r)))))
 
 unfoldable pub firstMalformed : Limits → Grammar → List TableRecord → ℕ
 unfolding firstFrom malformed

@@ -152,12 +152,12 @@ module _ (g : Grammar) (sets : Sets) (states : List State) where
     unShift zero c s i trace = trace
     unShift (suc fuel) c s i trace =
         elim (wasVisited s i trace) [
-          true ↦ trace
-        | false ↦
-            foldOver
+          | true ↦ trace
+          | false ↦
+              foldOver
               (λ p trace. elim (atStart g (i - 1)) [
-                true ↦ unClose fuel c p (i - 1) (onTable (addSuccessor p s) trace)
-              | false ↦ unShift fuel c p (i - 1) (onTable (addSuccessor p s) trace)
+                | true ↦ unClose fuel c p (i - 1) (onTable (addSuccessor p s) trace)
+                | false ↦ unShift fuel c p (i - 1) (onTable (addSuccessor p s) trace)
               ])
               (predecessors s (symbolOf (at g i)))
               (visit s i trace)
@@ -169,15 +169,15 @@ module _ (g : Grammar) (sets : Sets) (states : List State) where
     unClose zero c s i trace = trace
     unClose (suc fuel) c s i trace =
         elim (wasVisited s i trace) [
-          true ↦ trace
-        | false ↦
-            foldOver
+          | true ↦ trace
+          | false ↦
+              foldOver
               (λ j trace. elim (mayBeEmpty j) [
-                true ↦ elim (atStart g j) [
-                  true ↦ unClose fuel c s j (onTable (enter s c (tokensPast j)) trace)
-                | false ↦ unShift fuel c s j (onTable (enter s c (tokensPast j)) trace)
+                | true ↦ elim (atStart g j) [
+                  | true ↦ unClose fuel c s j (onTable (enter s c (tokensPast j)) trace)
+                  | false ↦ unShift fuel c s j (onTable (enter s c (tokensPast j)) trace)
                 ]
-              | false ↦ onTable (enter s c (tokensPast j)) trace
+                | false ↦ onTable (enter s c (tokensPast j)) trace
               ])
               (itemsBefore s (at g i .symbol))
               (enterStart s c i (visit s i trace))

@@ -56,11 +56,11 @@ canJoin table m s t =
 unfoldable pub joinGroups : ℕ → ℕ → Merge → Merge
 unfolding headOf
 joinGroups s t m = record {
-    states = m .states;
-    origins = m .origins;
-    heads = map (λ head. pick (eqb head (headOf m t)) (headOf m s) head) (m .heads);
-    walked = m .walked
-  }
+  states = m .states;
+  origins = m .origins;
+  heads = map (λ head. pick (eqb head (headOf m t)) (headOf m s) head) (m .heads);
+  walked = m .walked;
+}
 
 -- ---- clones
 -- the clones of s, oldest first
@@ -72,23 +72,23 @@ clonesOf m s = keep (λ c. eqb (originOf m c) s && not (eqb c s)) (upTo (length 
 unfoldable pub cloneState : ℕ → Merge → Merge
 unfolding originOf
 cloneState s m = record {
-    states = m .states ++ (getD (m .states) s [] ∷ []);
-    origins = m .origins ++ (originOf m s ∷ []);
-    heads = m .heads ++ (length (m .states) ∷ []);
-    walked = m .walked
-  }
+  states = m .states ++ (getD (m .states) s [] ∷ []);
+  origins = m .origins ++ (originOf m s ∷ []);
+  heads = m .heads ++ (length (m .states) ∷ []);
+  walked = m .walked;
+}
 
 -- the successor's number is replaced in the shifts and gotos of state s; merge.rs: patch_links
 unfoldable pub patchLinks : Grammar → ℕ → ℕ → ℕ → Merge → Merge
 unfolding atEnd
 patchLinks g s successor clone m = record {
-    states = set (m .states) s
+  states = set (m .states) s
       (map (λ e. record { item = e .item; next = pick (not (atEnd g (e .item)) && eqb (e .next) successor) clone (e .next); set = e .set })
-        (getD (m .states) s []));
-    origins = m .origins;
-    heads = m .heads;
-    walked = m .walked
-  }
+      (getD (m .states) s []));
+  origins = m .origins;
+  heads = m .heads;
+  walked = m .walked;
+}
 
 unfoldable pub walkOn : ℕ → Merge → Merge
 unfolding join single
@@ -152,9 +152,9 @@ unfolding has walkOn successorsOf joinSuccessor eachInTurn
 walk l g table zero s m = done m
 walk l g table (suc fuel) s m =
     elim (has (m .walked) s) [
-      true ↦ done m
-    | false ↦
-        eachInTurn
+      | true ↦ done m
+      | false ↦
+          eachInTurn
           (λ successor m. elim (joinSuccessor l g table s successor m) [ done j ↦ walk l g table fuel (j .with) (j .merge) | refused why ↦ refused why ])
           (successorsOf table m s)
           (walkOn s m)
@@ -221,8 +221,8 @@ unfolding resolve
 resolveFrom l g sets zero s states = done states
 resolveFrom l g sets (suc fuel) s states =
     elim (ltb s (length states)) [
-      true ↦ elim (resolve l g sets s states) [ done states′ ↦ resolveFrom l g sets fuel (suc s) states′ | refused why ↦ refused why ]
-    | false ↦ done states
+      | true ↦ elim (resolve l g sets s states) [ done states′ ↦ resolveFrom l g sets fuel (suc s) states′ | refused why ↦ refused why ]
+      | false ↦ done states
     ]
 
 unfoldable pub resolveAll : Limits → Grammar → Outcome (List State) → Outcome (List State)

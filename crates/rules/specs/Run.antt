@@ -58,35 +58,35 @@ productionLeft g p = at g (leftSideOf g p) .symbol
 module _ {S : Type 0} where
   abbrev pub shifted : S → Standing S → Standing S
   shifted to s = record {
-      stack = set (s .stack) (s .depth) to;
-      depth = s .depth + 1;
-      list = s .list;
-      listed = s .listed;
-      steps = s .steps + 1;
-      place = s .place + 1
-    }
+    stack = set (s .stack) (s .depth) to;
+    depth = s .depth + 1;
+    list = s .list;
+    listed = s .listed;
+    steps = s .steps + 1;
+    place = s .place + 1;
+  }
 
   -- production p is put on the list, its symbols' states go, and `to` is put where the first of them stood
   abbrev pub reduced : ℕ → ℕ → S → Standing S → Standing S
   reduced p symbols to s = record {
-      stack = set (s .stack) (s .depth - symbols) to;
-      depth = s .depth - symbols + 1;
-      list = set (s .list) (s .listed) p;
-      listed = s .listed + 1;
-      steps = s .steps + 1;
-      place = s .place
-    }
+    stack = set (s .stack) (s .depth - symbols) to;
+    depth = s .depth - symbols + 1;
+    list = set (s .list) (s .listed) p;
+    listed = s .listed + 1;
+    steps = s .steps + 1;
+    place = s .place;
+  }
 
   -- production 0 is put on the list, and state 0 is left
   abbrev pub ended : Standing S → Standing S
   ended s = record {
-      stack = s .stack;
-      depth = 1;
-      list = set (s .list) (s .listed) 0;
-      listed = s .listed + 1;
-      steps = s .steps + 1;
-      place = s .place
-    }
+    stack = s .stack;
+    depth = 1;
+    list = set (s .list) (s .listed) 0;
+    listed = s .listed + 1;
+    steps = s .steps + 1;
+    place = s .place;
+  }
 
   unfoldable pub listFull : Standing S → Bool
   listFull s = leb (length (s .list)) (s .listed)
@@ -144,10 +144,10 @@ module _ {S : Type 0} (table : Table S) (g : Grammar) (tokens : List ℕ) (limit
 
   unfoldable pub answered : RunEnd → Standing S → RunResult S
   answered end s = record {
-      answer = record { end = end; place = s .place; steps = s .steps; listed = s .listed };
-      stack = s .stack;
-      list = s .list
-    }
+    answer = record { end = end; place = s .place; steps = s .steps; listed = s .listed };
+    stack = s .stack;
+    list = s .list;
+  }
 
   -- a move is a step, and none is made at the limit, so limit + 1 moves are the most that are tried
   unfoldable pub runFrom : ℕ → Standing S → RunResult S

@@ -168,8 +168,8 @@ unfolding expandNext
 expandAll l g follow zero c = done (c .states)
 expandAll l g follow (suc fuel) c =
     elim (ltb (length (c .states)) (length (c .kernels))) [
-      true ↦ elim (expandNext l g follow c) [ done c′ ↦ expandAll l g follow fuel c′ | refused why ↦ refused why ]
-    | false ↦ done (c .states)
+      | true ↦ elim (expandNext l g follow c) [ done c′ ↦ expandAll l g follow fuel c′ | refused why ↦ refused why ]
+      | false ↦ done (c .states)
     ]
 
 -- state 0 has the start production at dot 0; build/mod.rs: build_states

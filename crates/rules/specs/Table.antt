@@ -77,12 +77,12 @@ tableBytes rs = concat (map recordBytes rs)
 unfoldable pub tableRecordAt : List ℕ → ℕ → TableRecord
 unfolding numberAt
 tableRecordAt bytes i = record {
-    state = numberAt bytes i;
-    kind = getD bytes (i + 2) 0;
-    zeroByte = getD bytes (i + 3) 0;
-    symbol = numberAt bytes (i + 4);
-    target = numberAt bytes (i + 6)
-  }
+  state = numberAt bytes i;
+  kind = getD bytes (i + 2) 0;
+  zeroByte = getD bytes (i + 3) 0;
+  symbol = numberAt bytes (i + 4);
+  target = numberAt bytes (i + 6);
+}
 
 -- the first k records of the bytes
 unfoldable pub tableRecordsOf : ℕ → List ℕ → List TableRecord
