@@ -1,20 +1,18 @@
--- Lists by tests and by steps: what is among them.
-use Prim.Native.Nat.{ℕ, zero, suc, _+_, _<_, _≤_}
-use mathlib.Core.Path.{_≡_, refl}
+-- Lists by tests and by steps, sums, and what is among a list.
+use Prim.Native.Nat.{ℕ, zero, suc, _+_, _*_, _<_, _≤_}
+use mathlib.Core.Path.{_≡_, refl, ap₂}
 use mathlib.Core.Logic.{_⊎_, inl, inr, ⊎-elim, _↔_}
 use mathlib.Core.Bool.{Bool, true, false, false≢true}
 use mathlib.Core.List.{List, [], _∷_, map}
 use native.Mathlib.Omega.{arith}
+use native.Mathlib.Nat.{suc-mul}
 use native.Mathlib.Decide.{ℕ-discrete}
-use lib.ListN.{length, getD}
+use lib.ListN.{length, getD, set, drop, replicate}
 use Rattle.base.specs.Pick.{pick}
-use Rattle.base.specs.Lists.{numbersFrom, upTo, greatest, keep, eachOf, foldOver}
+use Rattle.base.specs.Among.{Among, here, later}
+use Rattle.base.specs.Lists.{numbersFrom, upTo, sum, greatest, keep, eachOf, foldOver}
 
 module _ {A : Type 0} where
-  pub data Among (x : A) : List A → Type 0 where
-    here : {xs : List A} → Among x (x ∷ xs)
-    later : {y : A} {xs : List A} → Among x xs → Among x (y ∷ xs)
-
   pub among-none : {x : A} → Among x [] → ⊥
   among-none m = elim m [ ]
 
@@ -26,6 +24,11 @@ module _ {A : Type 0} where
   among-at [] i d h = absurd (omega arith)
   among-at (x ∷ xs) zero d h = here
   among-at (x ∷ xs) (suc i) d h = later (among-at xs i d (omega arith))
+
+  pub among-drop : {x : A} (k : ℕ) (xs : List A) → Among x (drop k xs) → Among x xs
+  among-drop zero xs m = m
+  among-drop (suc k) [] m = m
+  among-drop (suc k) (y ∷ xs) m = later (among-drop k xs m)
 
   -- ---- the test of each
   module _ (test : A → Bool) where
@@ -76,6 +79,39 @@ module _ {A : Type 0} where
   unfolding foldOver
   fold-keeps step Inv [] keeps b i = i
   fold-keeps step Inv (x ∷ xs) keeps b i = fold-keeps step Inv xs (λ y m. keeps y (later m)) (step x b) (keeps x here b i)
+
+-- ---- stores
+module _ {A : Type 0} where
+  -- what holds of the value and of every element holds of every element after the store
+  pub after-set : (P : ℕ → A → Type 0) (l : List A) (a : ℕ) (x d : A) → P a x → ((b : ℕ) → P b (getD l b d)) → (b : ℕ) → P b (getD (set l a x) b d)
+  after-set P [] a x d p h b = h b
+  after-set P (y ∷ l) zero x d p h zero = p
+  after-set P (y ∷ l) zero x d p h (suc b) = h (suc b)
+  after-set P (y ∷ l) (suc a) x d p h zero = h zero
+  after-set P (y ∷ l) (suc a) x d p h (suc b) = after-set (λ k. P (suc k)) l a x d p (λ k. h (suc k)) b
+
+  pub set-same : (l : List A) (a : ℕ) (d : A) → set l a (getD l a d) ≡ l
+  set-same [] a d = refl
+  set-same (y ∷ l) zero d = refl
+  set-same (y ∷ l) (suc a) d = ap₂ _∷_ refl (set-same l a d)
+
+  pub at-replicate : (n : ℕ) (d : A) (a : ℕ) → getD (replicate n d) a d ≡ d
+  at-replicate zero d a = refl
+  at-replicate (suc n) d zero = refl
+  at-replicate (suc n) d (suc a) = at-replicate n d a
+
+  -- ---- sums
+  module _ (f : A → ℕ) where
+    pub sum-set : (l : List A) (a : ℕ) (x d : A) → a < length l → sum (map f (set l a x)) + f (getD l a d) ≡ sum (map f l) + f x
+    unfolding sum
+    sum-set [] a x d h = absurd (omega arith)
+    sum-set (y ∷ l) zero x d h = omega arith
+    sum-set (y ∷ l) (suc a) x d h = omega (arith, sum-set l a x d (omega arith))
+
+    pub sum-le : (b : ℕ) → ((x : A) → f x ≤ b) → (l : List A) → sum (map f l) ≤ length l * b
+    unfolding sum
+    sum-le b h [] = omega arith
+    sum-le b h (x ∷ l) = omega (arith, h x, suc-mul (length l) b, sum-le b h l)
 
 pub among-map : {A B : Type 0} (f : A → B) {x : A} {xs : List A} → Among x xs → Among (f x) (map f xs)
 among-map f here = here

@@ -7,7 +7,8 @@ use native.Mathlib.Omega.{arith}
 use Rattle.base.specs.Pick.{pick}
 use Rattle.base.specs.Loops.{until}
 use Rattle.base.specs.Lists.{eachOf, foldOver}
-use Rattle.base.proofs.Lists.{Among, here, later, fold-keeps}
+use Rattle.base.specs.Among.{Among, here, later}
+use Rattle.base.proofs.Lists.{fold-keeps}
 
 -- an invariant that each step keeps while the test fails
 module _ {ℓ κ} {A : Type ℓ} (test : A → Bool) (step : A → A) (Inv : A → Type κ) (keeps : (a : A) → Inv a → test a ≡ false → Inv (step a)) where
