@@ -1,1 +1,4 @@
+pub mod FirstComplete
+pub mod FirstSettles
+pub mod FirstSound
 pub mod Productions

@@ -26,7 +26,7 @@ rule-of-left-side g i m =
       position = eqb-true _ _ e;
       number = refl;
       left = refl;
-      right = refl
+      right = refl;
     }
 
 pub left-side-of-rule : (g : Grammar) {p A : ℕ} {η : List Symbol} (r : Rule g p A η) → Among (r .leftSide) (leftSides g)
@@ -40,7 +40,7 @@ side-among [] m = absurd (among-none m)
 side-among {x} (r ∷ rs) m = by-record (isLeftSide r) m (side-among rs)
   where
     by-record : (b : Bool) → Among x (pick b [] (symbolOf r ∷ sideOf rs)) → (Among x (sideOf rs) → (r : Record) × Among r rs × (symbolOf r ≡ x))
-      → (q : Record) × Among q (r ∷ rs) × (symbolOf q ≡ x)
+        → (q : Record) × Among q (r ∷ rs) × (symbolOf q ≡ x)
     by-record true m more = absurd (among-none m)
     by-record false m more = ⊎-elim (λ e. (r, here, sym e)) (λ k. let (q, n, e) = more k in (q, later n, e)) (among-cons m)
 
