@@ -1,2 +1,3 @@
+pub mod Derivations
 pub mod Meaning
 pub mod Rules

@@ -1,0 +1,4 @@
+pub mod Derivations
+pub mod Trees
+pub mod Productive
+pub mod First
