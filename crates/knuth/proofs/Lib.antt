@@ -1,4 +1,6 @@
 pub mod Derivations
-pub mod Trees
-pub mod Productive
 pub mod First
+pub mod Items
+pub mod Productive
+pub mod Strings
+pub mod Trees

@@ -1,3 +1,4 @@
 pub mod Derivations
+pub mod Items
 pub mod Meaning
 pub mod Rules
