@@ -1,0 +1,10 @@
+pub mod Derivations
+pub mod First
+pub mod FirstComplete
+pub mod FirstSettles
+pub mod FirstSound
+pub mod Items
+pub mod Productions
+pub mod Productive
+pub mod Strings
+pub mod Trees
