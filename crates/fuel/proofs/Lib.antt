@@ -1,3 +1,5 @@
 pub mod Outcomes
 pub mod Run
 pub mod States
+pub mod Trace
+pub mod Walk

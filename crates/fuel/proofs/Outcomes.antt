@@ -1,5 +1,5 @@
 -- What holds of the outcome of a part of the construction, unless it was refused.
-use mathlib.Core.Path.{_≡_, refl}
+use mathlib.Core.Path.{_≡_, refl, ap, _∙_}
 use mathlib.Core.Bool.{Bool, true, false}
 use mathlib.Core.List.{List, [], _∷_}
 use Rattle.base.specs.Pick.{pick}
@@ -27,3 +27,21 @@ holds-in-turn {A} {B} P step (x ∷ xs) keeps b p = by-first (step x b) (keeps x
         → Holds P (elim first [ done b′ ↦ eachInTurn step xs b′ | refused why ↦ refused why ])
     by-first (done b′) p more = more b′ p
     by-first (refused why) p more = tt
+
+-- steps that agree wherever an invariant of the second holds
+pub same-in-turn : {A B : Type 0} (P : B → Type 0) (step other : A → B → Outcome B) (xs : List A)
+    → ((x : A) → Among x xs → (b : B) → P b → step x b ≡ other x b) → ((x : A) → Among x xs → (b : B) → P b → Holds P (other x b))
+    → (b : B) → P b → eachInTurn step xs b ≡ eachInTurn other xs b
+unfolding eachInTurn
+same-in-turn P step other [] agree keeps b p = refl
+same-in-turn {A} {B} P step other (x ∷ xs) agree keeps b p =
+    ap (λ o. later-in-turn step o) (agree x here b p)
+    ∙ by-first (other x b) (keeps x here b p) (same-in-turn P step other xs (λ y m. agree y (later m)) (λ y m. keeps y (later m)))
+  where
+    later-in-turn : (A → B → Outcome B) → Outcome B → Outcome B
+    later-in-turn step first = elim first [ done b′ ↦ eachInTurn step xs b′ | refused why ↦ refused why ]
+
+    by-first : (first : Outcome B) → Holds P first → ((b : B) → P b → eachInTurn step xs b ≡ eachInTurn other xs b)
+        → later-in-turn step first ≡ later-in-turn other first
+    by-first (done b′) p more = more b′ p
+    by-first (refused why) p more = refl

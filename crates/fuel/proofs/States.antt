@@ -29,8 +29,13 @@ module _ (l : Limits) (g : Grammar) where
       (λ _. holds-pick Few (ltb s (length (e .kernels))) _ _ (λ _. h)
       (λ new. holds-pick Few (eqb s (l .states)) _ _ (λ _. tt)
       (λ room.
-        omega (arith, ltb-false s (length (e .kernels)) new, eqb-false s (l .states) room, place-within (sameKernel kernel) (e .kernels),
-        length-append (e .kernels) (kernel ∷ [])))))
+      omega (
+        arith,
+        ltb-false s (length (e .kernels)) new,
+        eqb-false s (l .states) room,
+        place-within (sameKernel kernel) (e .kernels),
+        length-append (e .kernels) (kernel ∷ []),
+      ))))
 
   transitions-few : (xs : List Symbol) (e : Expansion) → Few e → Holds Few (addTransitions l g xs e)
   unfolding addTransitions
