@@ -1,13 +1,12 @@
 -- The rounds that collect FIRST end within m (n + 1): one that is not the last adds one of n + 1 tokens to one of m sets.
-use Prim.Native.Nat.{ℕ, _+_, _*_, _^_, _<_, _≤_}
-use mathlib.Core.Path.{_≡_, refl, sym, ap, _∙_}
+use Prim.Native.Nat.{ℕ, _+_, _*_, _^_, _<_}
+use mathlib.Core.Path.{_≡_, ap, _∙_}
 use mathlib.Core.Bool.{Bool, true, false}
 use mathlib.Core.List.{List, [], _∷_, map}
 use native.Mathlib.Omega.{arith}
-use native.Mathlib.Nat.{suc-mul}
 use lib.ListN.{length, getD, set, length-set, replicate, length-replicate}
 use Rattle.base.specs.Pick.{pick}
-use Rattle.base.specs.Among.{Among, here, later}
+use Rattle.base.specs.Among.{here, later}
 use Rattle.base.specs.Lists.{sum}
 use Rattle.base.proofs.Lists.{after-set, set-same, at-replicate, sum-set, sum-le}
 use Rattle.base.proofs.Until.{Steps, rounds-end}

@@ -1,6 +1,8 @@
+pub mod Collected
 pub mod Derivations
 pub mod First
 pub mod FirstComplete
+pub mod FirstSets
 pub mod FirstSettles
 pub mod FirstSound
 pub mod Items
