@@ -4,6 +4,8 @@ use mathlib.Core.Path.{_≡_, refl}
 use mathlib.Core.Bool.{Bool, true, false}
 use native.Mathlib.Omega.{arith}
 use native.Mathlib.Decide.{ℕ-discrete}
+use lib.Dec.{ltb}
+use borrow.Author.Tests.{ltb-false}
 use Rattle.base.specs.Pick.{pick}
 use Rattle.base.specs.Loops.{firstFrom}
 
@@ -27,3 +29,7 @@ module _ (test : ℕ → Bool) where
           → (firstFrom test n (suc i) < suc i + n → test (firstFrom test n (suc i)) ≡ true) → test (pick b i (firstFrom test n (suc i))) ≡ true
       by-test true e h more = e
       by-test false e h more = more (omega arith)
+
+  -- none of 0, 1, .., n - 1 passes
+  pub none-first : (n k : ℕ) → k < n → ltb (firstFrom test n 0) n ≡ false → test k ≡ false
+  none-first n k h e = before-first n 0 k (omega arith) (omega arith) (omega (arith, ltb-false (firstFrom test n 0) n e))

@@ -17,7 +17,7 @@ use Rattle.sets.specs.Size.{size}
 use Rattle.sets.proofs.Laws.{has-true, has-false, has-none, has-single, has-join, within-true, single-below, join-within, size-le, size-grows}
 use Rattle.knuth.specs.Rules.{Rule}
 use Rattle.knuth.specs.Derivations.{Trees, none, leaf, node, DerivesTokens, Fruitful}
-use Rattle.knuth.specs.Named.{NonterminalsLeft}
+use Rattle.knuth.specs.Coded.{NonterminalsLeft}
 use Rattle.knuth.proofs.Trees.{derivation-of-trees, trees-of-derivation}
 use Rattle.knuth.proofs.Productive.{fruitful-trees}
 use Rattle.knuth.proofs.Productions.{rule-of-left-side, left-side-of-rule, left-below}

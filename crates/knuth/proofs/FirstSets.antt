@@ -2,24 +2,27 @@
 -- the string, and the mark n exactly if the string derives the empty string; `first1` has a token exactly if it begins the string
 -- followed by a token of the lookahead.
 --
--- The left sides of the grammar are nonterminals, as refusal 5 asks. The string's terminals are below n, as those of every right side
--- and of what stands behind any dot are (`terminals-below`).
-use Prim.Native.Nat.{ℕ, _<_}
+-- The left sides of the grammar are nonterminals, as refusal 5 asks. The string's terminals are below n, as those of what stands
+-- behind any dot are. `first-computed` says it all of the symbols behind a dot of a coded grammar.
+use Prim.Native.Nat.{ℕ, _<_, _≤_}
 use mathlib.Core.Path.{_≡_, refl}
 use mathlib.Core.Logic.{_⊎_, inl, inr, ⊎-elim, _↔_}
 use mathlib.Core.Bool.{Bool, true, false}
 use mathlib.Core.List.{List}
 use native.Mathlib.Omega.{arith}
+use native.Mathlib.Decide.{ℕ-discrete}
 use Rattle.base.specs.Pick.{pick}
 use Rattle.base.specs.Among.{here, later}
+use Rattle.rules.specs.Limits.{Limits}
 use Rattle.rules.specs.Records.{Grammar}
 use Rattle.rules.specs.Tokens.{TokenSet, Has, has, single, join, without}
-use Rattle.rules.specs.Grammar.{Symbol, terminalCount}
+use Rattle.rules.specs.Grammar.{Symbol, symbolsBehind, terminalCount}
 use Rattle.rules.specs.First.{first0, first1, firstSets}
 use Rattle.sets.proofs.Laws.{has-true, has-false, has-single, has-join, has-without}
 use Rattle.knuth.specs.Rules.{Rule}
 use Rattle.knuth.specs.Meaning.{Null, Begins, token, inside, past, First}
-use Rattle.knuth.specs.Named.{TerminalsBelow, NonterminalsLeft}
+use Rattle.knuth.specs.Coded.{Checked, TerminalsBelow, NonterminalsLeft}
+use Rattle.knuth.proofs.Coded.{checked-left}
 use Rattle.knuth.proofs.First.{begins-or-null, first-of}
 use Rattle.knuth.proofs.Productions.{terminals-below}
 use Rattle.knuth.proofs.FirstSound.{first0-sound, first-sets-sound}
@@ -88,3 +91,27 @@ module _ (g : Grammar) (left : NonterminalsLeft g) (xs : List Symbol) (below : T
     (λ h. let (c, k, f) = first1-first (single b) t b (has-single b b .1 refl) .0 h in rw (has-single b c .0 k) at f),
     (λ f. first1-first (single b) t b (has-single b b .1 refl) .1 (b, has-single b b .1 refl, f)),
   )
+
+-- ---- what stands behind the dot of an item
+pub record FirstComputed (g : Grammar) (i : ℕ) : Type 0 where
+  pub empty : Has (first0 (terminalCount g) (firstSets g) (symbolsBehind g i)) (terminalCount g) ↔ Null (Rule g) (symbolsBehind g i)
+  pub begins : (t : ℕ) → t < terminalCount g → Has (first0 (terminalCount g) (firstSets g) (symbolsBehind g i)) t ↔ Begins (Rule g) t (symbolsBehind g i)
+  pub nothing-else : (t : ℕ) → Has (first0 (terminalCount g) (firstSets g) (symbolsBehind g i)) t → t ≤ terminalCount g
+  pub followed : (lookahead : TokenSet) (t : ℕ) → Has (first1 (terminalCount g) (firstSets g) (symbolsBehind g i) lookahead) t
+      ↔ (Begins (Rule g) t (symbolsBehind g i) ⊎ (Null (Rule g) (symbolsBehind g i) × Has lookahead t))
+  pub followed-by : (b t : ℕ) → Has (first1 (terminalCount g) (firstSets g) (symbolsBehind g i) (single b)) t ↔ First (Rule g) (symbolsBehind g i) b t
+
+pub first-computed : (l : Limits) (g : Grammar) → Checked l g → (i : ℕ) → FirstComputed g i
+first-computed l g c i =
+    let left : NonterminalsLeft g = checked-left l g c in
+    let below : TerminalsBelow (terminalCount g) (symbolsBehind g i) = terminals-below g i in
+    record {
+      empty = first0-null g left (symbolsBehind g i) below;
+      begins = λ t h. first0-begins g left (symbolsBehind g i) below t (λ e. omega arith);
+      nothing-else = λ t h. elim (ℕ-discrete t (terminalCount g)) [
+        | yes e ↦ omega arith
+        | no ne ↦ omega (arith, begins-below g below (first0-begins g left (symbolsBehind g i) below t ne .0 h))
+      ];
+      followed = first1-begins g left (symbolsBehind g i) below;
+      followed-by = first1-single g left (symbolsBehind g i) below;
+    }

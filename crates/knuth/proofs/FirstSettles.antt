@@ -16,7 +16,7 @@ use Rattle.rules.specs.Grammar.{Symbol, nonterminal, terminal, symbolsBehind, l
 use Rattle.rules.specs.First.{Sets, setOf, joinAt, first0, addFirst, firstSettled, firstSets}
 use Rattle.sets.specs.Size.{size}
 use Rattle.sets.proofs.Laws.{none-below, single-below, join-below, without-below, join-within, size-le, size-grows}
-use Rattle.knuth.specs.Named.{TerminalsBelow, NonterminalsLeft}
+use Rattle.knuth.specs.Coded.{TerminalsBelow, NonterminalsLeft}
 use Rattle.knuth.proofs.Productions.{terminals-below, left-below}
 
 module _ (n : ℕ) where

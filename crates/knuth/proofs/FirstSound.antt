@@ -17,7 +17,7 @@ use Rattle.rules.specs.First.{Sets, setOf, joinAt, first0, addFirst, firstSettl
 use Rattle.sets.proofs.Laws.{has-true, has-false, has-none, has-single, has-eof, has-join, has-without}
 use Rattle.knuth.specs.Rules.{Rule}
 use Rattle.knuth.specs.Meaning.{Null, null, null-nonterminal, Begins, token, inside}
-use Rattle.knuth.specs.Named.{TerminalsBelow}
+use Rattle.knuth.specs.Coded.{TerminalsBelow}
 use Rattle.knuth.proofs.First.{null-append, begins-front, begins-behind}
 use Rattle.knuth.proofs.Productions.{rule-of-left-side, terminals-below}
 

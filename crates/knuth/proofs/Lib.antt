@@ -1,3 +1,4 @@
+pub mod Coded
 pub mod Collected
 pub mod Derivations
 pub mod First

@@ -13,7 +13,7 @@ use Rattle.base.proofs.Lists.{among-none, among-cons, among-at, among-drop, amo
 use Rattle.rules.specs.Records.{Record, Grammar, past, at, isTerminal, isLeftSide}
 use Rattle.rules.specs.Grammar.{Symbol, nonterminal, terminal, symbolOf, sideOf, symbolsBehind, atStart, leftSides, terminalCount, nonterminalCount}
 use Rattle.knuth.specs.Rules.{Rule}
-use Rattle.knuth.specs.Named.{TerminalsBelow, NonterminalsLeft}
+use Rattle.knuth.specs.Coded.{TerminalsBelow, NonterminalsLeft}
 
 -- ---- left sides
 pub rule-of-left-side : (g : Grammar) (i : ℕ) → Among i (leftSides g) → Rule g (at g i .production) (at g i .symbol) (symbolsBehind g i)

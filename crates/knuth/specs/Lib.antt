@@ -1,5 +1,5 @@
+pub mod Coded
 pub mod Derivations
 pub mod Items
 pub mod Meaning
-pub mod Named
 pub mod Rules
