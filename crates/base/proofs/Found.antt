@@ -10,15 +10,15 @@ use Rattle.base.specs.Pick.{pick}
 use Rattle.base.specs.Loops.{firstFrom}
 
 module _ (test : ℕ → Bool) where
-  pub before-first : (n i k : ℕ) → i ≤ k → k < i + n → k < firstFrom test n i → test k ≡ false
+  pub before-first : (n i k : ℕ) → i ≤ k → k < firstFrom test n i → test k ≡ false
   unfolding firstFrom
-  before-first zero i k h l g = absurd (omega arith)
-  before-first (suc n) i k h l g = by-test (test i) refl g (before-first n (suc i) k)
+  before-first zero i k h g = absurd (omega arith)
+  before-first (suc n) i k h g = by-test (test i) refl g (before-first n (suc i) k)
     where
       by-test : (b : Bool) → test i ≡ b → k < pick b i (firstFrom test n (suc i))
-          → (suc i ≤ k → k < suc i + n → k < firstFrom test n (suc i) → test k ≡ false) → test k ≡ false
+          → (suc i ≤ k → k < firstFrom test n (suc i) → test k ≡ false) → test k ≡ false
       by-test true e g more = absurd (omega arith)
-      by-test false e g more = elim (ℕ-discrete k i) [ yes q ↦ rw q e | no ne ↦ more (omega arith) (omega arith) g ]
+      by-test false e g more = elim (ℕ-discrete k i) [ yes q ↦ rw q e | no ne ↦ more (omega arith) g ]
 
   pub at-first : (n i : ℕ) → firstFrom test n i < i + n → test (firstFrom test n i) ≡ true
   unfolding firstFrom
@@ -32,4 +32,4 @@ module _ (test : ℕ → Bool) where
 
   -- none of 0, 1, .., n - 1 passes
   pub none-first : (n k : ℕ) → k < n → ltb (firstFrom test n 0) n ≡ false → test k ≡ false
-  none-first n k h e = before-first n 0 k (omega arith) (omega arith) (omega (arith, ltb-false (firstFrom test n 0) n e))
+  none-first n k h e = before-first n 0 k (omega arith) (omega (arith, ltb-false (firstFrom test n 0) n e))

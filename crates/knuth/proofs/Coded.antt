@@ -67,7 +67,8 @@ pub checked-left : (l : Limits) (g : Grammar) → Checked l g → NonterminalsLe
 checked-left l g c = faultless-left l g (c .faultless)
 
 -- ---- refusal 8
-fruitful-string : (g : Grammar) (xs : List Symbol) → ((a : ℕ) → Among (nonterminal a) xs → DerivesTokens (Rule g) (nonterminal a ∷ [])) → Fruitful (Rule g) xs
+fruitful-string : (g : Grammar) (xs : List Symbol) → ((a : ℕ) → Among (nonterminal a) xs → DerivesTokens (Rule g) (nonterminal a ∷ []))
+    → Fruitful (Rule g) xs
 fruitful-string g [] f = tt
 fruitful-string g (terminal t ∷ xs) f = fruitful-string g xs (λ a m. f a (later m))
 fruitful-string g (nonterminal a ∷ xs) f = (f a here, fruitful-string g xs (λ a m. f a (later m)))
@@ -83,11 +84,15 @@ checked-productive l g c p A η r =
 -- refusal 8 names the lowest nonterminal that derives no tokens
 first-barren : (g : Grammar) → NonterminalsLeft g → firstBarren g < nonterminalCount g → Barren g (firstBarren g)
 unfolding firstBarren
-first-barren g left h = record {
-  named = h;
-  derives-none = λ d. has-false _ _ .0 (not-true _ (at-first (λ a. not (has (productive g) a)) (nonterminalCount g) 0 (omega arith))) (productive-derives g left _ .1 d);
-  lower-derive = λ b k. productive-derives g left b .0 (has-true _ _ .0 (not-false _ (before-first (λ a. not (has (productive g) a)) (nonterminalCount g) 0 b (omega arith) (omega arith) k)));
-}
+first-barren g left h =
+    let at-barren : has (productive g) (firstBarren g) ≡ false = not-true _ (at-first (λ a. not (has (productive g) a)) (nonterminalCount g) 0 (omega arith)) in
+    record {
+      named = h;
+      derives-none = λ d. has-false _ _ .0 at-barren (productive-derives g left _ .1 d);
+      lower-derive = λ b k.
+          let lower = before-first (λ a. not (has (productive g) a)) (nonterminalCount g) 0 b (omega arith) k in
+          productive-derives g left b .0 (has-true _ _ .0 (not-false _ lower));
+    }
 
 -- the other refusals of a grammar
 not-no-string : (r : GrammarRefusal) (a : ℕ) → (r ≡ NoString a → ⊥) → Refused r ≡ Refused (NoString a) → ⊥

@@ -1,6 +1,6 @@
 -- The nonterminals that `productive` collects are exactly those that derive a string of terminals, and its rounds suffice.
 use Prim.Native.Nat.{ℕ, _<_}
-use mathlib.Core.Path.{_≡_, refl}
+use mathlib.Core.Path.{_≡_, refl, _∙_}
 use mathlib.Core.Logic.{⊎-elim, _↔_}
 use mathlib.Core.Bool.{Bool, true, false, _||_, not, false≢true, true≢false}
 use mathlib.Core.List.{List, [], _∷_, _++_, reverse}
@@ -11,10 +11,10 @@ use Rattle.base.specs.Lists.{eachOf}
 use Rattle.base.proofs.Lists.{each-true}
 use Rattle.base.proofs.Until.{Steps, rounds-keep, rounds-end}
 use Rattle.rules.specs.Records.{Grammar, at}
-use Rattle.rules.specs.Tokens.{TokenSet, Has, has, single, join, within}
+use Rattle.rules.specs.Tokens.{TokenSet, Has, has, single, join}
 use Rattle.rules.specs.Grammar.{Symbol, nonterminal, terminal, symbolsBehind, leftSides, nonterminalCount, symbolDerives, sideDerives, collect, allCollected, productive}
 use Rattle.sets.specs.Size.{size}
-use Rattle.sets.proofs.Laws.{has-true, has-false, has-none, has-single, has-join, within-true, single-below, join-within, size-le, size-grows}
+use Rattle.sets.proofs.Laws.{has-true, has-none, has-single, has-join, within-single, single-below, join-within, size-le, size-grows}
 use Rattle.knuth.specs.Rules.{Rule}
 use Rattle.knuth.specs.Derivations.{Trees, none, leaf, node, DerivesTokens, Fruitful}
 use Rattle.knuth.specs.Coded.{NonterminalsLeft}
@@ -63,13 +63,8 @@ module _ (g : Grammar) where
   module _ (found : TokenSet) (all : allCollected g found ≡ true) where
     left-collected : {p a : ℕ} {η : List Symbol} → Rule g p a η → eachOf (symbolDerives found) η ≡ true → has found a ≡ true
     unfolding allCollected sideDerives
-    left-collected {a = a} {η = η} r e =
-        let f : (not (eachOf (symbolDerives found) (symbolsBehind g (r .leftSide))) || has found (at g (r .leftSide) .symbol)) ≡ true =
-        each-true (λ i. not (sideDerives g found i) || has found (at g i .symbol)) (left-side-of-rule g r) all in
-        by-side (rw (r .left, r .right, e) at f)
-      where
-        by-side : (not true || has found a) ≡ true → has found a ≡ true
-        by-side h = h
+    left-collected r e =
+        rw (r .left, r .right, e) at (each-true (λ i. not (sideDerives g found i) || has found (at g i .symbol)) (left-side-of-rule g r) all)
 
     side-collected : {xs : List Symbol} {ps w : List ℕ} → Trees (Rule g) xs ps w → eachOf (symbolDerives found) xs ≡ true
     unfolding eachOf symbolDerives
@@ -82,16 +77,6 @@ module _ (g : Grammar) where
     abbrev done : ℕ → TokenSet → Bool
     done i found = not (sideDerives g found i) || has found (at g i .symbol)
 
-    single-within : (found a : ℕ) → has found a ≡ true → within (single a) found ≡ true
-    single-within found a e = within-true (single a) found .1 (λ t h. rw (has-single a t .0 h) (has-true found a .0 e))
-
-    single-not-within : (found a : ℕ) → has found a ≡ false → within (single a) found ≡ false
-    single-not-within found a e = by-test (within (single a) found) refl
-      where
-        by-test : (b : Bool) → within (single a) found ≡ b → b ≡ false
-        by-test true h = absurd (has-false found a .0 e (within-true (single a) found .0 h a (has-single a a .1 refl)))
-        by-test false h = refl
-
     steps : Steps (collect g) done (size (nonterminalCount g)) (λ found. Unit {0}) (leftSides g)
     unfolding collect
     steps = record {
@@ -101,12 +86,12 @@ module _ (g : Grammar) where
     }
       where
         rests : (a : ℕ) (found : TokenSet) (b : Bool) → (not b || has found a) ≡ true → pick b (join found (single a)) found ≡ found
-        rests a found true e = join-within found (single a) (single-within found a e)
+        rests a found true e = join-within found (single a) (within-single a found ∙ e)
         rests a found false e = refl
 
         adds : (a : ℕ) (found : TokenSet) → a < nonterminalCount g → (b : Bool) → (not b || has found a) ≡ false
             → size (nonterminalCount g) found < size (nonterminalCount g) (pick b (join found (single a)) found)
-        adds a found h true e = size-grows (nonterminalCount g) found (single a) (single-below (nonterminalCount g) a h) (single-not-within found a e)
+        adds a found h true e = size-grows (nonterminalCount g) found (single a) (single-below (nonterminalCount g) a h) (within-single a found ∙ e)
         adds a found h false e = absurd (true≢false e)
 
     productive-settled : allCollected g (productive g) ≡ true
