@@ -40,9 +40,9 @@ module _ (Rule : ℕ → ℕ → List Symbol → Type 0) where
   derives-behind δ d = simp append-nil at (derives-between δ [] d)
 
   -- a production between a string and tokens
-  pub derives-rule : {p A : ℕ} {η : List Symbol} (δ : List Symbol) (v : List ℕ) → Rule p A η
-      → Derives Rule (δ ++ (nonterminal A ∷ tokens v)) (p ∷ []) (δ ++ (η ++ tokens v))
-  derives-rule {A} {η} δ v r = step (record { before = δ; head = A; body = η; behind = v; rule = r; from = refl; to = refl }) done
+  abbrev pub rule-step : {p A : ℕ} {η : List Symbol} (δ : List Symbol) (v : List ℕ) → Rule p A η
+      → Step Rule p (δ ++ (nonterminal A ∷ tokens v)) (δ ++ (η ++ tokens v))
+  rule-step {A} {η} δ v r = record { before = δ; head = A; body = η; behind = v; rule = r; from = refl; to = refl }
 
   -- the last step of a derivation
   pub last-step : {φ ψ : List Symbol} {ps : List ℕ} → Derives Rule φ ps ψ

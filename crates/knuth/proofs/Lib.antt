@@ -1,4 +1,5 @@
 pub mod Derivations
+pub mod Example8
 pub mod First
 pub mod Items
 pub mod LR1

@@ -21,9 +21,11 @@ use Prim.Native.Nat.{ℕ}
 use mathlib.Core.Path.{_≡_}
 use mathlib.Core.List.{List, [], _∷_, _++_}
 use lib.ListN.{length}
-use Rattle.rules.specs.Grammar.{Symbol, nonterminal, terminal}
+use Rattle.rules.specs.Records.{Grammar}
+use Rattle.rules.specs.Grammar.{Symbol, nonterminal, terminal, start, terminalCount}
 use Rattle.knuth.specs.Derivations.{tokens, next, Step, Derives}
 use Rattle.knuth.specs.Items.{At}
+use Rattle.knuth.specs.Rules.{Rule}
 
 module _ (Rule : ℕ → ℕ → List Symbol → Type 0) (S Eof : ℕ) where
   -- the right sentential form φ has handle (n, p)
@@ -44,3 +46,7 @@ module _ (Rule : ℕ → ℕ → List Symbol → Type 0) (S Eof : ℕ) where
   pub record Clear : Type 0 where
     pub reduce-reduce : {γ α β : List Symbol} {p q A B t : ℕ} → At Rule S Eof γ p A α [] t → At Rule S Eof γ q B β [] t → p ≡ q
     pub shift-reduce : {γ α β β′ : List Symbol} {p q A B t u : ℕ} → At Rule S Eof γ p A α [] t → At Rule S Eof γ q B β (terminal t ∷ β′) u → ⊥
+
+-- a coded grammar is LR(1)
+abbrev pub IsLR1 : Grammar → Type 0
+IsLR1 g = LR1 (Rule g) (start g) (terminalCount g)

@@ -1,4 +1,5 @@
 pub mod Derivations
+pub mod Examples
 pub mod Items
 pub mod LR1
 pub mod Meaning
