@@ -15,9 +15,6 @@ module _ (Rule : ℕ → ℕ → List Symbol → Type 0) where
   derives-then done e = e
   derives-then (step s d) e = step s (derives-then d e)
 
-  pub derives-last : {φ ψ χ : List Symbol} {ps : List ℕ} {p : ℕ} → Derives Rule φ ps ψ → Step Rule p ψ χ → Derives Rule φ (ps ++ (p ∷ [])) χ
-  derives-last d s = derives-then d (step s done)
-
   -- ---- between a string and tokens
   abbrev pub step-between : {φ ψ : List Symbol} {p : ℕ} (δ : List Symbol) (v : List ℕ) → Step Rule p φ ψ
       → Step Rule p (δ ++ (φ ++ tokens v)) (δ ++ (ψ ++ tokens v))

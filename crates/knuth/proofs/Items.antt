@@ -23,6 +23,19 @@ module _ (Rule : ℕ → ℕ → List Symbol → Type 0) (S Eof : ℕ) where
   item-rule (move i) = item-rule i
   item-rule (close i r f) = r
 
+  -- ---- a symbol that was read stood behind the dot of some item
+  pub record Behind (γ : List Symbol) (x : Symbol) : Type 0 where
+    pub production : ℕ
+    pub left : ℕ
+    pub α : List Symbol
+    pub β : List Symbol
+    pub token : ℕ
+    pub item : At Rule S Eof γ production left α (x ∷ β) token
+
+  pub read-behind : {γ α β : List Symbol} {p A t : ℕ} {x : Symbol} → At Rule S Eof (x ∷ γ) p A α β t → Behind γ x
+  read-behind (move i) = record { production = _; left = _; α = _; β = _; token = _; item = i }
+  read-behind (close i r f) = read-behind i
+
   -- ---- every production that a rightmost derivation may use next is an item of the stack left of it
   abbrev Reached : List Symbol → Type 0
   Reached φ = (p A t : ℕ) (η δ ρ : List Symbol) → φ ≡ δ ++ (nonterminal A ∷ ρ) → Rule p A η → First Rule ρ Eof t
