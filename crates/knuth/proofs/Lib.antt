@@ -1,5 +1,6 @@
 pub mod Derivations
 pub mod Example8
+pub mod Example9
 pub mod Family
 pub mod First
 pub mod Items

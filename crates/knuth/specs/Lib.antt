@@ -1,5 +1,6 @@
 pub mod Derivations
 pub mod Examples
+pub mod ItemSets
 pub mod Items
 pub mod LR1
 pub mod Meaning
