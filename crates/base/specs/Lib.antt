@@ -1,3 +1,4 @@
+pub mod Among
 pub mod Fill
 pub mod Lists
 pub mod Loops

@@ -3,8 +3,12 @@ pub mod Example8
 pub mod Example9
 pub mod Family
 pub mod First
+pub mod FirstComplete
+pub mod FirstSettles
+pub mod FirstSound
 pub mod Items
 pub mod LR1
+pub mod Productions
 pub mod Productive
 pub mod Strings
 pub mod Trees

@@ -4,4 +4,5 @@ pub mod ItemSets
 pub mod Items
 pub mod LR1
 pub mod Meaning
+pub mod Named
 pub mod Rules

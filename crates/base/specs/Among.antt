@@ -1,0 +1,7 @@
+-- What is among a list.
+use mathlib.Core.List.{List, _∷_}
+
+module _ {A : Type 0} where
+  pub data Among (x : A) : List A → Type 0 where
+    here : {xs : List A} → Among x (x ∷ xs)
+    later : {y : A} {xs : List A} → Among x xs → Among x (y ∷ xs)
