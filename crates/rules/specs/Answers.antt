@@ -1,6 +1,5 @@
 -- Document 01's number and place for every answer, with the counts that come beside it.
 use Prim.Native.Nat.{ℕ}
-use Rattle.rules.specs.declared.StateIndex.{StateIndex}
 use Rattle.rules.specs.declared.GrammarRefusal.{GrammarRefusal}
 use Rattle.rules.specs.declared.GrammarRefusal.the-variants.{Length, BadRecord, OutOfSequence, StartAgain, NoProduction, NoString}
 use Rattle.rules.specs.declared.GrammarAnswer.{GrammarAnswer}
@@ -11,7 +10,6 @@ use Rattle.rules.specs.declared.BuildAnswer.{BuildAnswer}
 use Rattle.rules.specs.declared.BuildAnswer.the-variants.{Built, NotBuilt}
 use Rattle.rules.specs.declared.RunEnd.{RunEnd}
 use Rattle.rules.specs.declared.RunEnd.the-variants.{Accepted, Rejected, Broken, ListFull, StackFull, StepLimit}
-use Rattle.rules.specs.declared.RunAnswer.{RunAnswer}
 use Rattle.rules.specs.declared.DriveAnswer.{DriveAnswer}
 use Rattle.rules.specs.declared.DriveAnswer.the-variants.{NoGrammar, NoTable, NoToken, Ran}
 

@@ -2,8 +2,8 @@
 -- the mark and adds the given lookahead instead. FIRST of every nonterminal is collected in rounds over the productions.
 --
 -- S→A b, A→, A→a: FIRST of A is a and the mark; `first0` of A b is a and b.
-use Prim.Native.Nat.{ℕ, zero, suc, _+_, _*_}
-use mathlib.Core.Bool.{Bool, true, false}
+use Prim.Native.Nat.{ℕ, _+_, _*_}
+use mathlib.Core.Bool.{Bool}
 use mathlib.Core.List.{List, [], _∷_}
 use lib.ListN.{getD, set, replicate}
 use Rattle.base.specs.Pick.{pick}

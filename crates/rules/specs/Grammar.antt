@@ -3,7 +3,7 @@
 -- the dot is i + 1, and the item of a production with dot 0 is its left-side record. The start item is 0.
 --
 -- 0: S→A, 1: A→a has records 0 1 2 3 for S A A a: item 2 is A→·a, item 3 is A→a·.
-use Prim.Native.Nat.{ℕ, zero, suc, _+_}
+use Prim.Native.Nat.{ℕ, _+_}
 use mathlib.Core.Bool.{Bool, true, false, _&&_, _||_, not}
 use mathlib.Core.List.{List, [], _∷_, map}
 use lib.ListN.{length, drop}

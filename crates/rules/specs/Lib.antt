@@ -1,7 +1,15 @@
 pub mod Answers
+pub mod Build
+pub mod Drive
+pub mod FinalCheck
 pub mod First
 pub mod Grammar
+pub mod Lanes
 pub mod Limits
+pub mod Merge
 pub mod Records
 pub mod Rooms
+pub mod Run
+pub mod States
+pub mod Table
 pub mod Tokens

@@ -2,9 +2,9 @@
 -- would be bit n + 1 and is never set.
 --
 -- With two terminals, `single 0` is 1, Eof is 4 and `all 2` is 7.
-use Prim.Native.Nat.{ℕ, suc, _+_, _-_, _*_, _/_, _%_, _^_}
+use Prim.Native.Nat.{ℕ, _+_, _-_, _/_, _%_, _^_}
 use mathlib.Core.Path.{_≡_}
-use mathlib.Core.Bool.{Bool, true, false}
+use mathlib.Core.Bool.{Bool}
 use lib.Dec.{eqb}
 use lib.Bits.{bitAnd, bitOr}
 use Rattle.base.specs.Pick.{pick}
