@@ -3,7 +3,7 @@ use Prim.Native.Nat.{ℕ, _<_}
 use mathlib.Core.Path.{_≡_, refl, _∙_}
 use mathlib.Core.Logic.{⊎-elim, _↔_}
 use mathlib.Core.Bool.{Bool, true, false, _||_, not, false≢true, true≢false}
-use mathlib.Core.List.{List, [], _∷_, _++_, reverse}
+use mathlib.Core.List.{List, [], _∷_}
 use native.Mathlib.Omega.{arith}
 use Rattle.base.specs.Pick.{pick}
 use Rattle.base.specs.Among.{Among, here}
@@ -18,8 +18,8 @@ use Rattle.sets.proofs.Laws.{has-true, has-none, has-single, has-join, within-s
 use Rattle.knuth.specs.Rules.{Rule}
 use Rattle.knuth.specs.Derivations.{Trees, none, leaf, node, DerivesTokens, Fruitful}
 use Rattle.knuth.specs.Coded.{NonterminalsLeft}
-use Rattle.knuth.proofs.Trees.{derivation-of-trees, trees-of-derivation}
-use Rattle.knuth.proofs.Productive.{fruitful-trees}
+use Rattle.knuth.proofs.Trees.{trees-of-derivation}
+use Rattle.knuth.proofs.Productive.{left-side-derives-tokens}
 use Rattle.knuth.proofs.Productions.{rule-of-left-side, left-side-of-rule, left-below}
 
 module _ (g : Grammar) where
@@ -38,17 +38,12 @@ module _ (g : Grammar) where
       by-first true f e more = (s a (has-true found a .0 f), more e)
       by-first false f e more = absurd (false≢true e)
 
-  left-side-derives : {p a : ℕ} {η : List Symbol} → Rule g p a η → Fruitful (Rule g) η → DerivesTokens (Rule g) (nonterminal a ∷ [])
-  left-side-derives {p} {η = η} r h =
-      let (ps, w, y) = fruitful-trees (Rule g) η h in
-      (reverse (ps ++ (p ∷ [])), w ++ [], derivation-of-trees (Rule g) (node r y none))
-
   sound-collect : (i : ℕ) → Among i (leftSides g) → (found : TokenSet) → Sound found → Sound (collect g i found)
   unfolding collect sideDerives
   sound-collect i m found s = by-test (eachOf (symbolDerives found) (symbolsBehind g i)) refl
     where
       new : eachOf (symbolDerives found) (symbolsBehind g i) ≡ true → DerivesTokens (Rule g) (nonterminal (at g i .symbol) ∷ [])
-      new e = left-side-derives (rule-of-left-side g i m) (fruitful-side found s (symbolsBehind g i) e)
+      new e = left-side-derives-tokens (Rule g) (rule-of-left-side g i m) (fruitful-side found s (symbolsBehind g i) e)
 
       by-test : (b : Bool) → eachOf (symbolDerives found) (symbolsBehind g i) ≡ b → Sound (pick b (join found (single (at g i .symbol))) found)
       by-test true e a h = ⊎-elim (s a) (λ k. rw (has-single (at g i .symbol) a .0 k) (new e)) (has-join found (single (at g i .symbol)) a .0 h)
