@@ -15,9 +15,6 @@ module _ (Rule : ℕ → ℕ → List Symbol → Type 0) where
   derives-then done e = e
   derives-then (step s d) e = step s (derives-then d e)
 
-  pub derives-last : {φ ψ χ : List Symbol} {ps : List ℕ} {p : ℕ} → Derives Rule φ ps ψ → Step Rule p ψ χ → Derives Rule φ (ps ++ (p ∷ [])) χ
-  derives-last d s = derives-then d (step s done)
-
   -- ---- between a string and tokens
   abbrev pub step-between : {φ ψ : List Symbol} {p : ℕ} (δ : List Symbol) (v : List ℕ) → Step Rule p φ ψ
       → Step Rule p (δ ++ (φ ++ tokens v)) (δ ++ (ψ ++ tokens v))
@@ -40,9 +37,9 @@ module _ (Rule : ℕ → ℕ → List Symbol → Type 0) where
   derives-behind δ d = simp append-nil at (derives-between δ [] d)
 
   -- a production between a string and tokens
-  pub derives-rule : {p A : ℕ} {η : List Symbol} (δ : List Symbol) (v : List ℕ) → Rule p A η
-      → Derives Rule (δ ++ (nonterminal A ∷ tokens v)) (p ∷ []) (δ ++ (η ++ tokens v))
-  derives-rule {A} {η} δ v r = step (record { before = δ; head = A; body = η; behind = v; rule = r; from = refl; to = refl }) done
+  abbrev pub rule-step : {p A : ℕ} {η : List Symbol} (δ : List Symbol) (v : List ℕ) → Rule p A η
+      → Step Rule p (δ ++ (nonterminal A ∷ tokens v)) (δ ++ (η ++ tokens v))
+  rule-step {A} {η} δ v r = record { before = δ; head = A; body = η; behind = v; rule = r; from = refl; to = refl }
 
   -- the last step of a derivation
   pub last-step : {φ ψ : List Symbol} {ps : List ℕ} → Derives Rule φ ps ψ

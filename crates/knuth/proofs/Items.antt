@@ -8,7 +8,7 @@ use Rattle.knuth.specs.Derivations.{tokens, next, Step, Derives, done, s
 use Rattle.knuth.specs.Meaning.{First, end}
 use Rattle.knuth.specs.Items.{At, start, move, close, Valid}
 use Rattle.knuth.proofs.Strings.{Stands, where-stands, no-nonterminal-in-tokens}
-use Rattle.knuth.proofs.Derivations.{tokens-append, derives-then, derives-between, derives-rule}
+use Rattle.knuth.proofs.Derivations.{tokens-append, derives-then, derives-between, rule-step}
 use Rattle.knuth.proofs.Productive.{fruitful-behind}
 use Rattle.knuth.proofs.First.{first-of-tokens, first-before-tokens, first-unexpanded, first-derives}
 
@@ -22,6 +22,19 @@ module _ (Rule : ℕ → ℕ → List Symbol → Type 0) (S Eof : ℕ) where
   item-rule (start r) = r
   item-rule (move i) = item-rule i
   item-rule (close i r f) = r
+
+  -- ---- a symbol that was read stood behind the dot of some item
+  pub record Behind (γ : List Symbol) (x : Symbol) : Type 0 where
+    pub production : ℕ
+    pub left : ℕ
+    pub α : List Symbol
+    pub β : List Symbol
+    pub token : ℕ
+    pub item : At Rule S Eof γ production left α (x ∷ β) token
+
+  pub read-behind : {γ α β : List Symbol} {p A t : ℕ} {x : Symbol} → At Rule S Eof (x ∷ γ) p A α β t → Behind γ x
+  read-behind (move i) = record { production = _; left = _; α = _; β = _; token = _; item = i }
+  read-behind (close i r f) = read-behind i
 
   -- ---- every production that a rightmost derivation may use next is an item of the stack left of it
   abbrev Reached : List Symbol → Type 0
@@ -81,7 +94,7 @@ module _ (Rule : ℕ → ℕ → List Symbol → Type 0) (S Eof : ℕ) where
 
   pub valid-used : {γ α β : List Symbol} {p A t : ℕ} (v : Valid Rule S Eof γ p A α β t)
       → Derives Rule (nonterminal S ∷ []) (v .by ++ (p ∷ [])) (reverse γ ++ (β ++ tokens (v .rest)))
-  valid-used v = rw (valid-string v (tokens (v .rest))) at (derives-then Rule (v .form) (derives-rule Rule (reverse (v .under)) (v .rest) (v .rule)))
+  valid-used v = rw (valid-string v (tokens (v .rest))) at (derives-then Rule (v .form) (step (rule-step Rule (reverse (v .under)) (v .rest) (v .rule)) done))
 
   -- S derives γ B β w, and so γ B x w
   close-valid : Productive Rule → {γ α β η : List Symbol} {p q A B t u : ℕ}

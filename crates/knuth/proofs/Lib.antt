@@ -1,9 +1,16 @@
+pub mod Coded
+pub mod Collected
 pub mod Derivations
+pub mod Example8
+pub mod Example9
+pub mod Family
 pub mod First
 pub mod FirstComplete
+pub mod FirstSets
 pub mod FirstSettles
 pub mod FirstSound
 pub mod Items
+pub mod LR1
 pub mod Productions
 pub mod Productive
 pub mod Strings

@@ -5,7 +5,7 @@ use mathlib.Core.Path.{_≡_, refl, sym, _∙_, ap, ap₂}
 use mathlib.Core.List.{List, [], _∷_, _++_, reverse, append-assoc, append-nil, reverseAux-eq, reverse-append}
 use Rattle.rules.specs.Grammar.{Symbol, nonterminal, terminal}
 use Rattle.knuth.specs.Derivations.{tokens, Step, Derives, done, step, Trees, none, leaf, node}
-use Rattle.knuth.proofs.Derivations.{tokens-append, derives-then, derives-between, derives-behind, derives-rule}
+use Rattle.knuth.proofs.Derivations.{tokens-append, derives-then, derives-between, derives-behind, rule-step}
 
 module _ (Rule : ℕ → ℕ → List Symbol → Type 0) where
   -- ---- from trees to derivations: the rightmost tree is derived first
@@ -16,7 +16,7 @@ module _ (Rule : ℕ → ℕ → List Symbol → Type 0) where
       let later : Derives Rule (nonterminal A ∷ φ) (reverse qs) (nonterminal A ∷ tokens v) =
       derives-behind Rule (nonterminal A ∷ []) (derivation-of-trees z) in
       let inside : Derives Rule (nonterminal A ∷ tokens v) (p ∷ reverse ps) (tokens u ++ tokens v) =
-      derives-then Rule (derives-rule Rule [] v r) (derives-between Rule [] v (derivation-of-trees y)) in
+      step (rule-step Rule [] v r) (derives-between Rule [] v (derivation-of-trees y)) in
       let e : reverse qs ++ (p ∷ reverse ps) ≡ reverse (ps ++ (p ∷ qs)) =
       rw (reverse-append ps (p ∷ qs), reverseAux-eq qs (p ∷ [])) (sym (append-assoc (reverse qs) (p ∷ []) (reverse ps))) in
       rw (tokens-append, ← e) (derives-then Rule later inside)
