@@ -1,6 +1,6 @@
 -- A run ends within its step limit: each move that goes on is a step, and none goes on at the limit.
 use Prim.Native.Nat.{ℕ, zero, suc, _+_, _<_, _≤_}
-use mathlib.Core.Path.{_≡_, refl, sym}
+use mathlib.Core.Path.{_≡_, refl}
 use mathlib.Core.Bool.{Bool, true, false, _&&_}
 use mathlib.Core.Option.{Option, none, some}
 use mathlib.Core.List.{List}
@@ -10,9 +10,8 @@ use lib.Dec.{eqb, leb}
 use borrow.Author.Tests.{leb-false}
 use Rattle.base.specs.Pick.{pick}
 use Rattle.rules.specs.Records.{Grammar}
-use Rattle.rules.specs.Run.{Act, shift, reduce, noAct, Table, Standing, Moved, goes, ends, RunResult, shifted, reduced, ended, listFull, stackFull, sideLength, productionLeft, token, stateUnder, moveShift, moveGoto, moveEnd, moveReduce, moveBy, move, answered, runFrom}
-use Rattle.rules.specs.declared.RunEnd.{RunEnd}
-use Rattle.rules.specs.declared.RunEnd.the-variants.{Accepted, Broken, ListFull, StackFull, StepLimit}
+use Rattle.rules.specs.Run.{Act, shift, reduce, noAct, Table, Standing, Moved, goes, ends, RunResult, shifted, reduced, listFull, stackFull, sideLength, productionLeft, token, stateUnder, moveShift, moveGoto, moveEnd, moveReduce, moveBy, move, answered, runFrom}
+use Rattle.rules.specs.declared.RunEnd.the-variants.{StepLimit}
 
 module _ {S : Type 0} (table : Table S) (g : Grammar) (tokens : List ℕ) (limit : ℕ) where
   -- what a move that goes on from s has made of it

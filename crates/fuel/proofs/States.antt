@@ -1,13 +1,12 @@
 -- The states are all expanded within the limit: each turn expands one, and there are never more than the limit.
-use Prim.Native.Nat.{ℕ, zero, suc, _+_, _<_, _≤_}
+use Prim.Native.Nat.{ℕ, zero, suc, _+_, _≤_}
 use mathlib.Core.Path.{_≡_, refl}
 use mathlib.Core.Bool.{Bool, true, false}
-use mathlib.Core.List.{List, [], _∷_, _++_}
+use mathlib.Core.List.{List, [], _∷_}
 use native.Mathlib.Omega.{arith}
 use lib.ListN.{length, getD, length-append}
 use lib.Dec.{eqb, ltb}
 use borrow.Author.Tests.{ltb-true, ltb-false, eqb-false}
-use Rattle.base.specs.Pick.{pick}
 use Rattle.base.specs.Lists.{placeOf, isEmpty}
 use Rattle.base.proofs.Places.{place-within}
 use Rattle.rules.specs.Limits.{Limits}

@@ -1,20 +1,20 @@
 -- A trace stops by its test: each call that goes on visits a pair of state and item that was not visited, and there are as many pairs
 -- as states times records.
-use Prim.Native.Nat.{ℕ, zero, suc, _+_, _-_, _*_, _<_, _≤_}
-use mathlib.Core.Path.{_≡_, refl, sym, ap, _∙_}
-use mathlib.Core.Logic.{_⊎_, inl, inr}
+use Prim.Native.Nat.{ℕ, zero, suc, _-_, _*_, _<_, _≤_}
+use mathlib.Core.Path.{_≡_, refl, ap, _∙_}
+use mathlib.Core.Logic.{inr}
 use mathlib.Core.Bool.{Bool, true, false}
-use mathlib.Core.List.{List, [], _∷_, map}
+use mathlib.Core.List.{List, [], map}
 use native.Mathlib.Omega.{arith}
-use lib.ListN.{length, getD, set, length-set}
+use lib.ListN.{length, getD, length-set}
 use lib.Dec.{eqb}
 use Rattle.base.specs.Pick.{pick}
-use Rattle.base.specs.Lists.{upTo, sum, keep, foldOver}
+use Rattle.base.specs.Lists.{upTo, sum, foldOver}
 use Rattle.base.specs.Among.{Among}
 use Rattle.base.proofs.Folds.{fold-same}
 use Rattle.base.proofs.Lists.{keep-among, upTo-among, fold-keeps, sum-set, sum-le}
 use Rattle.rules.specs.Records.{Grammar, at}
-use Rattle.rules.specs.Tokens.{has, single, join, eof}
+use Rattle.rules.specs.Tokens.{single, join, eof}
 use Rattle.rules.specs.Grammar.{symbolOf, atStart, start, terminalCount}
 use Rattle.rules.specs.First.{Sets}
 use Rattle.rules.specs.States.{Entry, State}

@@ -1,22 +1,22 @@
 -- The walk of the merge stops by its test: each call that goes on walks a state that was not walked, and there are never more than the
 -- limit.
 use Prim.Native.Nat.{ℕ, zero, suc, _+_, _<_, _≤_}
-use mathlib.Core.Path.{_≡_, refl, sym, ap, _∙_}
-use mathlib.Core.Logic.{_⊎_, inl, inr, ⊎-elim}
+use mathlib.Core.Path.{_≡_, refl}
+use mathlib.Core.Logic.{inr, ⊎-elim}
 use mathlib.Core.Bool.{Bool, true, false}
-use mathlib.Core.List.{List, [], _∷_, _++_}
+use mathlib.Core.List.{List, [], _∷_}
 use native.Mathlib.Omega.{arith}
-use lib.ListN.{length, getD, set, length-append, length-set}
+use lib.ListN.{length, getD, length-append, length-set}
 use lib.Dec.{eqb, leb, ltb}
 use borrow.Author.Tests.{ltb-true, leb-false}
 use Rattle.base.specs.Pick.{pick}
-use Rattle.base.specs.Lists.{upTo, keep}
-use Rattle.base.specs.Among.{Among, here, later}
+use Rattle.base.specs.Lists.{upTo}
+use Rattle.base.specs.Among.{Among}
 use Rattle.base.proofs.Lists.{among-at, among-cons, keep-among, upTo-among}
 use Rattle.rules.specs.Limits.{Limits}
 use Rattle.rules.specs.Records.{Grammar}
 use Rattle.rules.specs.Tokens.{has, single, join}
-use Rattle.rules.specs.States.{State, Outcome, done, refused, itemCount, conflictCount}
+use Rattle.rules.specs.States.{Outcome, done, refused, itemCount}
 use Rattle.rules.specs.Lanes.{LaneTable}
 use Rattle.rules.specs.Merge.{Merge, canJoin, joinGroups, clonesOf, cloneState, patchLinks, walkOn, joined, joinNew, firstJoining, Joining, withNew, joinSuccessor, successorsOf, eachInTurn, walk}
 use Rattle.sets.specs.Size.{size}
