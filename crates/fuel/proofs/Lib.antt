@@ -1,3 +1,5 @@
+pub mod Closure
+pub mod Least
 pub mod Outcomes
 pub mod Run
 pub mod States
