@@ -3,22 +3,20 @@
 use Prim.Native.Nat.{ℕ, _+_, _*_, _^_, _<_, _≤_}
 use mathlib.Core.Path.{_≡_, refl, sym, ap, _∙_}
 use mathlib.Core.Bool.{Bool, true, false, _&&_, _||_, not, true≢false}
-use mathlib.Core.List.{List, [], _∷_}
 use native.Mathlib.Omega.{arith}
 use native.Mathlib.Decide.{decLe}
-use lib.ListN.{length, getD, replicate, length-replicate, List·getD-eq-default}
+use lib.ListN.{length, replicate, length-replicate, List·getD-eq-default}
 use Rattle.base.specs.Pick.{pick}
 use Rattle.base.specs.Among.{Among}
 use Rattle.base.proofs.Lists.{among-at, at-replicate, fold-keeps}
 use Rattle.base.proofs.Until.{Steps, rounds-keep, rounds-end}
-use Rattle.rules.specs.Records.{Record, Grammar, past, at, isTerminal, isLeftSide}
+use Rattle.rules.specs.Records.{Grammar, past, at, isTerminal, isLeftSide}
 use Rattle.rules.specs.Tokens.{TokenSet, has, join, within, without}
-use Rattle.rules.specs.Grammar.{Symbol, atEnd, symbolsBehind, leftSides, terminalCount, nonterminalCount}
+use Rattle.rules.specs.Grammar.{atEnd, symbolsBehind, leftSides, terminalCount, nonterminalCount}
 use Rattle.rules.specs.First.{Sets, setOf, joinAt, first0, first1, addFirst, firstSettled, firstSets}
 use Rattle.rules.specs.States.{Entry, State, Follow, noSet, asks, ask, answeredBy, askEntries, askLeftSides, closureSettled, closureSets}
 use Rattle.sets.proofs.Laws.{none-below, join-below, without-below}
 use Rattle.sets.proofs.Tables.{Narrow, mass, mass-le, joinAt-rests, joinAt-adds, joinAt-narrow, joinAt-length}
-use Rattle.knuth.specs.Coded.{NonterminalsLeft}
 use Rattle.knuth.proofs.Productions.{terminals-below, nonterminal-counted}
 use Rattle.knuth.proofs.FirstSettles.{first0-narrow}
 
@@ -26,9 +24,9 @@ use Rattle.knuth.proofs.FirstSettles.{first0-narrow}
 not-at-end-within : (g : Grammar) (i : ℕ) → atEnd g i ≡ false → i + 1 < length g
 unfolding atEnd at past isLeftSide
 not-at-end-within g i e = elim (decLe (length g) (i + 1)) [
-    yes h ↦ absurd (true≢false (rw (List·getD-eq-default g past h) at e))
+  | yes h ↦ absurd (true≢false (rw (List·getD-eq-default g past h) at e))
   | no h ↦ omega arith
-  ]
+]
 
 module _ (g : Grammar) (follow : Follow) where
   abbrev n : ℕ

@@ -2,7 +2,7 @@
 -- `rules` computes have all that their entries ask for.
 use Prim.Native.Nat.{ℕ, zero, suc, _+_, _*_, _^_, _<_, _≤_}
 use mathlib.Core.Path.{_≡_, refl, sym, ap, ap₂, _∙_}
-use mathlib.Core.Logic.{_⊎_, ⊎-elim}
+use mathlib.Core.Logic.{⊎-elim}
 use mathlib.Core.Bool.{Bool, true, false, _&&_, _||_, not, true≢false, false≢true, and-eq-true-iff}
 use mathlib.Core.List.{List, [], _∷_, map}
 use native.Mathlib.Omega.{arith}
@@ -11,14 +11,14 @@ use native.Mathlib.Nat.{add-mul}
 use lib.ListN.{length, getD, set, length-set, length-map, List·getD-eq-default}
 use lib.Dec.{eqb}
 use Rattle.base.specs.Pick.{pick}
-use Rattle.base.specs.Lists.{upTo, sum, eachOf, foldOver}
+use Rattle.base.specs.Lists.{upTo, sum, eachOf}
 use Rattle.base.specs.Among.{Among, here, later}
 use Rattle.base.proofs.Lists.{among-none, among-cons, after-set, set-same, set-past, fold-keeps, sum-set, sum-le}
 use Rattle.base.proofs.Until.{Steps, round-adds, round-rests, rounds-end}
-use Rattle.rules.specs.Records.{Grammar, at}
+use Rattle.rules.specs.Records.{Grammar}
 use Rattle.rules.specs.Tokens.{TokenSet, join, within, eof}
-use Rattle.rules.specs.Grammar.{symbolsBehind, terminalCount}
-use Rattle.rules.specs.First.{Sets, first1, firstSets}
+use Rattle.rules.specs.Grammar.{terminalCount}
+use Rattle.rules.specs.First.{Sets, firstSets}
 use Rattle.rules.specs.States.{Entry, State, itemCount}
 use Rattle.rules.specs.FinalCheck.{withSet, haveSet, giveSet, haveAt, giveAt, movesOn, closes, closing, behindDot, satisfied, satisfy, satisfyState, leastSettled, leastRound, leastBegun, leastSets}
 use Rattle.sets.specs.Size.{size}
@@ -111,9 +111,9 @@ module _ (n : ℕ) where
       → leastMass least < leastMass (giveAt s test tokens least)
   unfolding giveAt haveAt
   give-at-adds s test tokens b least h = elim (decLe (length least) s) [
-      yes p ↦ absurd (true≢false (sym (have-past s test tokens least p) ∙ h))
+    | yes p ↦ absurd (true≢false (sym (have-past s test tokens least p) ∙ h))
     | no p ↦ omega (arith, sum-set stateMass least s (giveSet test tokens (getD least s [])) [] (omega arith), give-adds test tokens b (getD least s []) h)
-    ]
+  ]
 
   -- ---- what giving keeps: how many states and entries there are, and that sets are small
   record Keeps (states least : List State) : Type 0 where
@@ -125,10 +125,10 @@ module _ (n : ℕ) where
       → Keeps states (giveAt s test tokens least)
   unfolding giveAt itemCount
   give-at-keeps s test tokens b states least k = record {
-      counts = length-set least s given ∙ k .counts;
-      items = same (decLe (length least) s) ∙ k .items;
-      small = after-set (λ s state. Small state) least s given [] (give-small test tokens b (getD least s []) (k .small s)) (k .small)
-    }
+    counts = length-set least s given ∙ k .counts;
+    items = same (decLe (length least) s) ∙ k .items;
+    small = after-set (λ s state. Small state) least s given [] (give-small test tokens b (getD least s []) (k .small s)) (k .small);
+  }
     where
       given : State
       given = giveSet test tokens (getD least s [])

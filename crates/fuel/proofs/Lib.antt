@@ -4,4 +4,5 @@ pub mod Outcomes
 pub mod Run
 pub mod States
 pub mod Trace
+pub mod Visits
 pub mod Walk

@@ -16,6 +16,10 @@ module _ {A : Type 0} (P : A → Type 0) where
   holds-pick true x y p q = p refl
   holds-pick false x y p q = q refl
 
+pub holds-also : {A : Type 0} (P Q : A → Type 0) → ((a : A) → P a → Q a) → (o : Outcome A) → Holds P o → Holds Q o
+holds-also P Q f (done a) p = f a p
+holds-also P Q f (refused why) p = tt
+
 -- what every step keeps
 pub holds-in-turn : {A B : Type 0} (P : B → Type 0) (step : A → B → Outcome B) (xs : List A)
     → ((x : A) → Among x xs → (b : B) → P b → Holds P (step x b)) → (b : B) → P b → Holds P (eachInTurn step xs b)

@@ -14,11 +14,11 @@ use Rattle.base.specs.Among.{Among}
 use Rattle.base.proofs.Folds.{fold-same}
 use Rattle.base.proofs.Lists.{keep-among, upTo-among, fold-keeps, sum-set, sum-le}
 use Rattle.rules.specs.Records.{Grammar, at}
-use Rattle.rules.specs.Tokens.{single, join, eof}
+use Rattle.rules.specs.Tokens.{TokenSet, single, join, eof}
 use Rattle.rules.specs.Grammar.{symbolOf, atStart, start, terminalCount}
 use Rattle.rules.specs.First.{Sets}
 use Rattle.rules.specs.States.{Entry, State}
-use Rattle.rules.specs.Lanes.{LaneTable, Trace, onTable, wasVisited, visit, addSuccessor, enter, stateAt, predecessors, itemsBefore, mayBeEmpty, tokensPast, enterStart, unShift, unClose}
+use Rattle.rules.specs.Lanes.{Trace, onTable, wasVisited, visit, addSuccessor, enter, stateAt, predecessors, itemsBefore, mayBeEmpty, tokensPast, enterStart, unShift, unClose}
 use Rattle.sets.specs.Size.{size}
 use Rattle.sets.proofs.Laws.{has-false, has-join, has-single, within-join, size-le, size-within, size-strict}
 
@@ -58,14 +58,6 @@ module _ (g : Grammar) (sets : Sets) (states : List State) (c : ℕ) where
   seen-bound : (trace : Trace) → length (trace .visited) ≡ length states → seen trace ≤ length states * length g
   seen-bound trace l = omega (arith, sum-le (size (length g)) (length g) (size-le (length g)) (trace .visited), ap (λ (k : ℕ). k * length g) l)
 
-  start-further : (s i n : ℕ) (trace : Trace) → Further n trace → Further n (enterStart g sets states s c i trace)
-  unfolding enterStart
-  start-further s i n trace h = by-test (eqb (at g i .symbol) (start g)) (enter s c (eof (terminalCount g)))
-    where
-      by-test : (b : Bool) (change : LaneTable → LaneTable) → Further n (pick b (onTable change trace) trace)
-      by-test true change = h
-      by-test false change = h
-
   predecessor-below : (s p : ℕ) (i : ℕ) → Among p (predecessors g sets states s (symbolOf (at g i))) → p < length states
   unfolding predecessors
   predecessor-below s p i among = let (m, _) = keep-among _ (upTo (length states)) among in upTo-among p (length states) .0 m
@@ -104,49 +96,62 @@ module _ (g : Grammar) (sets : Sets) (states : List State) (c : ℕ) where
         (enterStart g sets states s c i (visit s i trace))
   ]
 
-  module _ (recorded : Recorded) where
-    -- ---- a trace only adds to the pairs visited
-    abbrev Adds : (ℕ → ℕ → Trace → Trace) → Type 0
-    Adds go = (s i n : ℕ) (trace : Trace) → s < length states → i < length g → Further n trace → Further n (go s i trace)
+  -- ---- what a visit, a link and an entry keep, a trace keeps
+  pub record Kept (P : Trace → Type 0) : Type 0 where
+    pub visiting : (s i : ℕ) (trace : Trace) → s < length states → P trace → P (visit s i trace)
+    pub linking : (p s : ℕ) (trace : Trace) → P trace → P (onTable (addSuccessor p s) trace)
+    pub entering : (s : ℕ) (tokens : TokenSet) (trace : Trace) → P trace → P (onTable (enter s c tokens) trace)
 
-    record BothAdd (fuel : ℕ) : Type 0 where
-      shifting : Adds (unShift g sets states fuel c)
-      closing : Adds (unClose g sets states fuel c)
+  module _ (P : Trace → Type 0) (kept : Kept P) where
+    abbrev pub Keeps : (ℕ → ℕ → Trace → Trace) → Type 0
+    Keeps go = (s i : ℕ) (trace : Trace) → s < length states → P trace → P (go s i trace)
 
-    predecessor-adds : (fuel : ℕ) → BothAdd fuel → (s i p n : ℕ) (trace : Trace) (b : Bool) → p < length states → i < length g → Further n trace
-        → Further n (to-predecessor fuel s i p trace b)
-    predecessor-adds fuel both s i p n trace true q r h = both .closing p (i - 1) n (onTable (addSuccessor p s) trace) q (omega arith) h
-    predecessor-adds fuel both s i p n trace false q r h = both .shifting p (i - 1) n (onTable (addSuccessor p s) trace) q (omega arith) h
+    pub record BothKeep (fuel : ℕ) : Type 0 where
+      pub shifting : Keeps (unShift g sets states fuel c)
+      pub closing : Keeps (unClose g sets states fuel c)
 
-    item-adds : (fuel : ℕ) → BothAdd fuel → (s j n : ℕ) (trace : Trace) (b d : Bool) → s < length states → j < length g → Further n trace
-        → Further n (to-item fuel s j trace b d)
-    item-adds fuel both s j n trace true true q r h = both .closing s j n (onTable (enter s c (tokensPast g sets states j)) trace) q r h
-    item-adds fuel both s j n trace true false q r h = both .shifting s j n (onTable (enter s c (tokensPast g sets states j)) trace) q r h
-    item-adds fuel both s j n trace false d q r h = h
+    start-keeps : (s i : ℕ) (trace : Trace) → P trace → P (enterStart g sets states s c i trace)
+    unfolding enterStart
+    start-keeps s i trace h = by-test (eqb (at g i .symbol) (start g))
+      where
+        by-test : (b : Bool) → P (pick b (onTable (enter s c (eof (terminalCount g))) trace) trace)
+        by-test true = kept .entering s (eof (terminalCount g)) trace h
+        by-test false = h
 
-    shifted-adds : (fuel : ℕ) → BothAdd fuel → (s i n : ℕ) (trace : Trace) (b : Bool) → s < length states → i < length g → Further n trace
-        → Further n (un-shifted fuel s i trace b)
-    shifted-adds fuel both s i n trace true q r h = h
-    shifted-adds fuel both s i n trace false q r h =
-        fold-keeps (λ p trace. to-predecessor fuel s i p trace (atStart g (i - 1))) (Further n) (predecessors g sets states s (symbolOf (at g i)))
-        (λ p among t k. predecessor-adds fuel both s i p n t (atStart g (i - 1)) (predecessor-below s p i among) r k) (visit s i trace) (visit-further s i n trace q h)
+    predecessor-keeps : (fuel : ℕ) → BothKeep fuel → (s i p : ℕ) (trace : Trace) (b : Bool) → p < length states → P trace → P (to-predecessor fuel s i p trace b)
+    predecessor-keeps fuel both s i p trace true q h = both .closing p (i - 1) (onTable (addSuccessor p s) trace) q (kept .linking p s trace h)
+    predecessor-keeps fuel both s i p trace false q h = both .shifting p (i - 1) (onTable (addSuccessor p s) trace) q (kept .linking p s trace h)
 
-    closed-adds : (fuel : ℕ) → BothAdd fuel → (s i n : ℕ) (trace : Trace) (b : Bool) → s < length states → i < length g → Further n trace
-        → Further n (un-closed fuel s i trace b)
-    closed-adds fuel both s i n trace true q r h = h
-    closed-adds fuel both s i n trace false q r h =
-        fold-keeps (λ j trace. to-item fuel s j trace (mayBeEmpty g sets states j) (atStart g j)) (Further n) (itemsBefore g sets states s (at g i .symbol))
-        (λ j among t k. item-adds fuel both s j n t (mayBeEmpty g sets states j) (atStart g j) q (item-recorded recorded s (at g i .symbol) j among) k)
-        (enterStart g sets states s c i (visit s i trace)) (start-further s i n (visit s i trace) (visit-further s i n trace q h))
+    item-keeps : (fuel : ℕ) → BothKeep fuel → (s j : ℕ) (trace : Trace) (b d : Bool) → s < length states → P trace → P (to-item fuel s j trace b d)
+    item-keeps fuel both s j trace true true q h = both .closing s j (onTable (enter s c (tokensPast g sets states j)) trace) q (kept .entering s (tokensPast g sets states j) trace h)
+    item-keeps fuel both s j trace true false q h = both .shifting s j (onTable (enter s c (tokensPast g sets states j)) trace) q (kept .entering s (tokensPast g sets states j) trace h)
+    item-keeps fuel both s j trace false d q h = kept .entering s (tokensPast g sets states j) trace h
 
-    both-add : (fuel : ℕ) → BothAdd fuel
+    shifted-keeps : (fuel : ℕ) → BothKeep fuel → (s i : ℕ) (trace : Trace) (b : Bool) → s < length states → P trace → P (un-shifted fuel s i trace b)
+    shifted-keeps fuel both s i trace true q h = h
+    shifted-keeps fuel both s i trace false q h =
+        fold-keeps (λ p trace. to-predecessor fuel s i p trace (atStart g (i - 1))) P (predecessors g sets states s (symbolOf (at g i)))
+        (λ p among t k. predecessor-keeps fuel both s i p t (atStart g (i - 1)) (predecessor-below s p i among) k) (visit s i trace) (kept .visiting s i trace q h)
+
+    closed-keeps : (fuel : ℕ) → BothKeep fuel → (s i : ℕ) (trace : Trace) (b : Bool) → s < length states → P trace → P (un-closed fuel s i trace b)
+    closed-keeps fuel both s i trace true q h = h
+    closed-keeps fuel both s i trace false q h =
+        fold-keeps (λ j trace. to-item fuel s j trace (mayBeEmpty g sets states j) (atStart g j)) P (itemsBefore g sets states s (at g i .symbol))
+        (λ j among t k. item-keeps fuel both s j t (mayBeEmpty g sets states j) (atStart g j) q k)
+        (enterStart g sets states s c i (visit s i trace)) (start-keeps s i (visit s i trace) (kept .visiting s i trace q h))
+
+    pub both-keep : (fuel : ℕ) → BothKeep fuel
     unfolding unShift
-    both-add zero = record { shifting = λ s i n trace q r h. h; closing = λ s i n trace q r h. h }
-    both-add (suc fuel) = record {
-      shifting = λ s i n trace q r h. shifted-adds fuel (both-add fuel) s i n trace (wasVisited s i trace) q r h;
-      closing = λ s i n trace q r h. closed-adds fuel (both-add fuel) s i n trace (wasVisited s i trace) q r h;
+    both-keep zero = record { shifting = λ s i trace q h. h; closing = λ s i trace q h. h }
+    both-keep (suc fuel) = record {
+      shifting = λ s i trace q h. shifted-keeps fuel (both-keep fuel) s i trace (wasVisited s i trace) q h;
+      closing = λ s i trace q h. closed-keeps fuel (both-keep fuel) s i trace (wasVisited s i trace) q h;
     }
 
+  further-kept : (n : ℕ) → Kept (Further n)
+  further-kept n = record { visiting = λ s i trace b h. visit-further s i n trace b h; linking = λ p s trace h. h; entering = λ s tokens trace h. h }
+
+  module _ (recorded : Recorded) where
     -- ---- with fuel for one call more than there are pairs to visit, any larger fuel gives the same
     abbrev Agree : ℕ → (ℕ → ℕ → Trace → Trace) → (ℕ → ℕ → Trace → Trace) → Type 0
     Agree fuel go other = (s i : ℕ) (trace : Trace) → s < length states → i < length g → Further (length states * length g - fuel) trace
@@ -187,7 +192,7 @@ module _ (g : Grammar) (sets : Sets) (states : List State) (c : ℕ) where
         fold-same (Further (length states * length g - fuel)) (λ p trace. to-predecessor (suc larger) s i p trace (atStart g (i - 1)))
         (λ p trace. to-predecessor (suc fuel) s i p trace (atStart g (i - 1))) (predecessors g sets states s (symbolOf (at g i)))
         (λ p among t k. predecessor-agrees fuel larger both s i p t (atStart g (i - 1)) (predecessor-below s p i among) r k)
-        (λ p among t k. predecessor-adds (suc fuel) (both-add (suc fuel)) s i p _ t (atStart g (i - 1)) (predecessor-below s p i among) r k)
+        (λ p among t k. predecessor-keeps (Further (length states * length g - fuel)) (further-kept _) (suc fuel) (both-keep (Further (length states * length g - fuel)) (further-kept _) (suc fuel)) s i p t (atStart g (i - 1)) (predecessor-below s p i among) k)
         (visit s i trace) (visited-left fuel s i trace q r e h)
 
     closed-agree : (fuel larger : ℕ) → BothAgree fuel larger → (s i : ℕ) (trace : Trace) (b : Bool) → wasVisited s i trace ≡ b → s < length states → i < length g
@@ -197,8 +202,8 @@ module _ (g : Grammar) (sets : Sets) (states : List State) (c : ℕ) where
         fold-same (Further (length states * length g - fuel)) (λ j trace. to-item (suc larger) s j trace (mayBeEmpty g sets states j) (atStart g j))
         (λ j trace. to-item (suc fuel) s j trace (mayBeEmpty g sets states j) (atStart g j)) (itemsBefore g sets states s (at g i .symbol))
         (λ j among t k. item-agrees fuel larger both s j t (mayBeEmpty g sets states j) (atStart g j) q (item-recorded recorded s (at g i .symbol) j among) k)
-        (λ j among t k. item-adds (suc fuel) (both-add (suc fuel)) s j _ t (mayBeEmpty g sets states j) (atStart g j) q (item-recorded recorded s (at g i .symbol) j among) k)
-        (enterStart g sets states s c i (visit s i trace)) (start-further s i _ (visit s i trace) (visited-left fuel s i trace q r e h))
+        (λ j among t k. item-keeps (Further (length states * length g - fuel)) (further-kept _) (suc fuel) (both-keep (Further (length states * length g - fuel)) (further-kept _) (suc fuel)) s j t (mayBeEmpty g sets states j) (atStart g j) q k)
+        (enterStart g sets states s c i (visit s i trace)) (start-keeps (Further (length states * length g - fuel)) (further-kept _) s i (visit s i trace) (visited-left fuel s i trace q r e h))
 
     both-agree : (fuel larger : ℕ) → fuel ≤ larger → BothAgree fuel larger
     unfolding unShift

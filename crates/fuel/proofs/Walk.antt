@@ -21,7 +21,7 @@ use Rattle.rules.specs.Lanes.{LaneTable}
 use Rattle.rules.specs.Merge.{Merge, canJoin, joinGroups, clonesOf, cloneState, patchLinks, walkOn, joined, joinNew, firstJoining, Joining, withNew, joinSuccessor, successorsOf, eachInTurn, walk}
 use Rattle.sets.specs.Size.{size}
 use Rattle.sets.proofs.Laws.{has-false, has-join, has-single, within-join, size-le, size-within, size-strict}
-use Rattle.fuel.proofs.Outcomes.{Holds, holds-pick, holds-in-turn, same-in-turn}
+use Rattle.fuel.proofs.Outcomes.{Holds, holds-pick, holds-also, holds-in-turn, same-in-turn}
 
 module _ (l : Limits) (g : Grammar) (table : LaneTable) (rows : length table ≤ l .states) where
   abbrev Fits : Merge → Type 0
@@ -116,12 +116,11 @@ module _ (l : Limits) (g : Grammar) (table : LaneTable) (rows : length table ≤
       Later : Type 0
       Later = (s : ℕ) (m : Merge) → Fits m → Holds (Further (walks m)) (walk l g table fuel s m)
 
-      raise : (m′ : Merge) (o : Outcome Merge) → walks m ≤ walks m′ → Holds (Further (walks m′)) o → Holds (Further (walks m)) o
-      raise m′ (done m″) k (f, n) = (f, omega arith)
-      raise m′ (refused why) k p = tt
-
       by-joining : (m′ : Merge) (o : Outcome Joining) → Holds (Placed m′) o → Later → walks m ≤ walks m′ → Holds (Further (walks m)) (stepped fuel o)
-      by-joining m′ (done j) (b, p) more k = raise (j .merge) (walk l g table fuel (j .with) (j .merge)) (rw (p .same) k) (more (j .with) (j .merge) (p .fits))
+      by-joining m′ (done j) (b, p) more k =
+          let k′ : walks m ≤ walks (j .merge) = rw (p .same) k in
+          holds-also (Further (walks (j .merge))) (Further (walks m)) (λ m″ (f, q). (f, omega arith)) (walk l g table fuel (j .with) (j .merge))
+          (more (j .with) (j .merge) (p .fits))
       by-joining m′ (refused why) p more k = tt
 
       by-test : (b : Bool) → Later → Holds (Further (walks m)) (walked-by fuel s m b)
@@ -161,12 +160,11 @@ module _ (l : Limits) (g : Grammar) (table : LaneTable) (rows : length table ≤
       agree m′ (done j) (w, p) more r = more (j .with) (j .merge) (omega arith) w (p .fits) (rw (p .same) r)
       agree m′ (refused why) p more r = refl
 
-      still : (n : ℕ) (o : Outcome Merge) → l .states ≤ n + fuel → Holds (Further n) o → Holds Left o
-      still n (done m″) r (f, q) = (f, omega arith)
-      still n (refused why) r p = tt
-
       left : (m′ : Merge) (o : Outcome Joining) → Holds (Placed m′) o → l .states ≤ walks m′ + fuel → Holds Left (stepped (suc fuel) o)
-      left m′ (done j) (w, p) r = still (walks (j .merge)) (walk l g table (suc fuel) (j .with) (j .merge)) (rw (p .same) r) (walk-further (suc fuel) (j .with) (j .merge) (p .fits))
+      left m′ (done j) (w, p) r =
+          let r′ : l .states ≤ walks (j .merge) + fuel = rw (p .same) r in
+          holds-also (Further (walks (j .merge))) Left (λ m″ (f, q). (f, omega arith)) (walk l g table (suc fuel) (j .with) (j .merge))
+          (walk-further (suc fuel) (j .with) (j .merge) (p .fits))
       left m′ (refused why) p r = tt
 
       by-test : (t : Bool) → has (m .walked) s ≡ t → Later → walked-by (suc larger) s m t ≡ walked-by (suc fuel) s m t
