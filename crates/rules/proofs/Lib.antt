@@ -1,3 +1,4 @@
 pub mod Coding
 pub mod Examples
 pub mod Readings
+pub mod Rooms
