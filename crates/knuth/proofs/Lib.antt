@@ -1,3 +1,5 @@
+pub mod Conflicts
+pub mod Covers
 pub mod Derivations
 pub mod Example8
 pub mod Example9

@@ -1,6 +1,5 @@
+pub mod Covers
 pub mod Derivations
-pub mod Examples
-pub mod ItemSets
 pub mod Items
 pub mod LR1
 pub mod Meaning
