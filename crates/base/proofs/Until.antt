@@ -32,7 +32,8 @@ module _ {ℓ κ} {A : Type ℓ} (test : A → Bool) (step : A → A) (Inv : A �
         by-test false e = absurd (omega (arith, falls a i e))
     until-ends (suc n) a i h = by-test (test a) refl (until-ends n (step a))
       where
-        by-test : (b : Bool) → test a ≡ b → (Inv (step a) → measure (step a) ≤ n → test (until test step n (step a)) ≡ true) → test (pick b a (until test step n (step a))) ≡ true
+        by-test : (b : Bool) → test a ≡ b → (Inv (step a) → measure (step a) ≤ n → test (until test step n (step a)) ≡ true)
+            → test (pick b a (until test step n (step a))) ≡ true
         by-test true e more = e
         by-test false e more = more (keeps a i e) (omega (arith, falls a i e))
 
@@ -60,7 +61,7 @@ module _ {ℓ κ} {A : Type 0} {B : Type ℓ} (step : A → B → B) (done : A �
       here-stays true e = rw (s .rests x here b i e) (omega arith)
       here-stays false e = omega (arith, s .adds x here b i e)
 
-  pub round-adds : (xs : List A) → Steps xs → (b : B) → Inv b → eachOf (λ x. done x b) xs ≡ false → size b < size (foldOver step xs b)
+  round-adds : (xs : List A) → Steps xs → (b : B) → Inv b → eachOf (λ x. done x b) xs ≡ false → size b < size (foldOver step xs b)
   unfolding foldOver eachOf
   round-adds [] s b i e = absurd (true≢false e)
   round-adds (x ∷ xs) s b i e = by-first (done x b) refl e (round-adds xs (rest s) b i)

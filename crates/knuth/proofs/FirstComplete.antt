@@ -1,16 +1,16 @@
 -- Settled sets hold all that FIRST means: every token that begins, and the mark wherever the empty string is derived.
 use Prim.Native.Nat.{ℕ}
-use mathlib.Core.Path.{_≡_, refl, sym, ap, ap₂}
-use mathlib.Core.Logic.{inl, inr, ⊎-elim, _⊎_}
+use mathlib.Core.Path.{_≡_, refl}
+use mathlib.Core.Logic.{inl, inr}
 use mathlib.Core.Bool.{Bool, true, false, false≢true}
-use mathlib.Core.List.{List, [], _∷_}
+use mathlib.Core.List.{List, _∷_}
 use Rattle.base.specs.Pick.{pick}
 use Rattle.base.proofs.Lists.{each-true}
 use Rattle.rules.specs.Records.{Grammar, at}
-use Rattle.rules.specs.Tokens.{TokenSet, Has, has, join, within, without}
-use Rattle.rules.specs.Grammar.{Symbol, nonterminal, terminal, symbolsBehind, leftSides, terminalCount}
+use Rattle.rules.specs.Tokens.{Has, has, join, within, without}
+use Rattle.rules.specs.Grammar.{Symbol, nonterminal, symbolsBehind}
 use Rattle.rules.specs.First.{Sets, setOf, first0, firstSettled}
-use Rattle.sets.proofs.Laws.{has-true, has-false, has-single, has-eof, has-join, has-without, within-true}
+use Rattle.sets.proofs.Laws.{has-true, has-single, has-eof, has-join, has-without, within-true}
 use Rattle.knuth.specs.Rules.{Rule}
 use Rattle.knuth.specs.Meaning.{Null, null, null-nonterminal, Begins, token, inside, past}
 use Rattle.knuth.proofs.Productions.{left-side-of-rule}

@@ -1,3 +1,5 @@
+pub mod Coded
+pub mod Collected
 pub mod Conflicts
 pub mod Covers
 pub mod Derivations
@@ -6,6 +8,7 @@ pub mod Example9
 pub mod Family
 pub mod First
 pub mod FirstComplete
+pub mod FirstSets
 pub mod FirstSettles
 pub mod FirstSound
 pub mod Items

@@ -1,7 +1,7 @@
 -- The left-side records of a grammar are its productions, and every symbol on a right side is below n or m.
-use Prim.Native.Nat.{ℕ, zero, suc, _+_, _<_, _≤_}
-use mathlib.Core.Path.{_≡_, refl, sym, ap, _∙_}
-use mathlib.Core.Logic.{_⊎_, inl, inr, ⊎-elim}
+use Prim.Native.Nat.{ℕ, _+_, _<_}
+use mathlib.Core.Path.{_≡_, refl, sym}
+use mathlib.Core.Logic.{⊎-elim}
 use mathlib.Core.Bool.{Bool, true, false}
 use mathlib.Core.List.{List, [], _∷_}
 use native.Mathlib.Omega.{arith}
@@ -13,7 +13,7 @@ use Rattle.base.proofs.Lists.{among-none, among-cons, among-at, among-drop, amo
 use Rattle.rules.specs.Records.{Record, Grammar, past, at, isTerminal, isLeftSide}
 use Rattle.rules.specs.Grammar.{Symbol, nonterminal, terminal, symbolOf, sideOf, symbolsBehind, atStart, leftSides, terminalCount, nonterminalCount}
 use Rattle.knuth.specs.Rules.{Rule}
-use Rattle.knuth.specs.Named.{TerminalsBelow, NonterminalsLeft}
+use Rattle.knuth.specs.Coded.{TerminalsBelow, NonterminalsLeft}
 
 -- ---- left sides
 pub rule-of-left-side : (g : Grammar) (i : ℕ) → Among i (leftSides g) → Rule g (at g i .production) (at g i .symbol) (symbolsBehind g i)

@@ -39,6 +39,11 @@ module _ (Rule : ℕ → ℕ → List Symbol → Type 0) where
   pub fruitful-derives-tokens : (φ : List Symbol) → Fruitful Rule φ → DerivesTokens Rule φ
   fruitful-derives-tokens φ h = let (ps, w, y) = fruitful-trees φ h in (reverse ps, w, derivation-of-trees Rule y)
 
+  pub left-side-derives-tokens : {p A : ℕ} {η : List Symbol} → Rule p A η → Fruitful Rule η → DerivesTokens Rule (nonterminal A ∷ [])
+  left-side-derives-tokens {p} {η = η} r h =
+      let (ps, w, y) = fruitful-trees η h in
+      (reverse (ps ++ (p ∷ [])), w ++ [], derivation-of-trees Rule (node r y none))
+
   -- ---- and so does every form that the start derives
   module _ (productive : Productive Rule) where
     fruitful-step : {p : ℕ} {φ ψ : List Symbol} → Step Rule p φ ψ → Fruitful Rule φ → Fruitful Rule ψ
@@ -51,11 +56,6 @@ module _ (Rule : ℕ → ℕ → List Symbol → Type 0) where
     fruitful-derived done h = h
     fruitful-derived (step s d) h = fruitful-derived d (fruitful-step s h)
 
-    left-side-derives-tokens : {p A : ℕ} {η : List Symbol} → Rule p A η → DerivesTokens Rule (nonterminal A ∷ [])
-    left-side-derives-tokens {p} {A} {η} r =
-        let (ps, w, y) = fruitful-trees η (productive p A η r) in
-        (reverse (ps ++ (p ∷ [])), w ++ [], derivation-of-trees Rule (node r y none))
-
     pub every-form-derives-tokens : {p S : ℕ} {η φ : List Symbol} {ps : List ℕ} → Rule p S η → Derives Rule (nonterminal S ∷ []) ps φ
         → DerivesTokens Rule φ
-    every-form-derives-tokens {φ = φ} r d = fruitful-derives-tokens φ (fruitful-derived d (left-side-derives-tokens r, tt))
+    every-form-derives-tokens {p} {S} {η} {φ} r d = fruitful-derives-tokens φ (fruitful-derived d (left-side-derives-tokens r (productive p S η r), tt))

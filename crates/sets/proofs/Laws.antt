@@ -233,6 +233,16 @@ within-false a b e = ⊎-elim (λ p. absurd (eqb-false _ _ e p)) (λ d. let (p, 
     lacking t (inl h) = absurd (h .1 (has-meet a b t .0 (h .0) .0))
     lacking t (inr h) = (h .1, λ g. h .0 (has-meet a b t .1 (h .1, g)))
 
+-- of one token
+pub within-single : (t s : ℕ) → within (single t) s ≡ has s t
+within-single t s = by-tests (within (single t) s) (has s t) refl refl
+  where
+    by-tests : (b c : Bool) → within (single t) s ≡ b → has s t ≡ c → b ≡ c
+    by-tests true true e f = refl
+    by-tests true false e f = absurd (has-false s t .0 f (within-true (single t) s .0 e t (has-single t t .1 refl)))
+    by-tests false true e f = let (u, p, q) = within-false (single t) s e in absurd (q (rw (has-single t u .0 p) (has-true s t .0 f)))
+    by-tests false false e f = refl
+
 -- ---- sets below 2 ^ w have tokens below w alone
 pub has-below : (w s t : ℕ) → s < 2 ^ w → Has s t → t < w
 unfolding Has bit
