@@ -10,6 +10,7 @@ use Rattle.base.specs.Among.{Among, here, later}
 use Rattle.base.specs.Lists.{someOf, eachOf}
 use Rattle.base.proofs.Lists.{each-true}
 use Rattle.base.proofs.Tests.{both-true, implied-true, some-true, sum-zero}
+use Rattle.rules.specs.Limits.{Limits}
 use Rattle.rules.specs.Records.{Grammar, at}
 use Rattle.rules.specs.Tokens.{TokenSet, Has, within, eof}
 use Rattle.rules.specs.Grammar.{Symbol, nonterminal, terminal, isBefore, symbolsBehind, leftSides, start, terminalCount}
@@ -17,10 +18,12 @@ use Rattle.rules.specs.First.{Sets, first1, firstSets}
 use Rattle.rules.specs.States.{Entry, State, conflictsAt, conflictCount}
 use Rattle.sets.proofs.Laws.{has-none, has-eof, within-true}
 use Rattle.knuth.specs.Rules.{Rule}
+use Rattle.knuth.specs.Coded.{Checked}
 use Rattle.knuth.specs.Meaning.{First}
 use Rattle.knuth.specs.LR1.{Clear, IsLR1}
 use Rattle.knuth.specs.Covers.{setOfItem, hasProductions, closedBehind, isClosed, hasMoved, movesOver, allMove, covers}
 use Rattle.knuth.proofs.Productions.{left-side-of-rule}
+use Rattle.knuth.proofs.FirstSets.{first-behind-dot}
 use Rattle.knuth.proofs.Conflicts.{symbol-behind, one-reduction, no-shift}
 use Rattle.knuth.proofs.Family.{Closed, NoConflict, family-clear}
 use Rattle.knuth.proofs.LR1.{clear→LR1}
@@ -60,3 +63,94 @@ module _ (g : Grammar) where
         behind = rw q (r .right);
         token = k;
       }
+
+  -- ---- closing and moving
+  closing-found : (l : Limits) → Checked l g → (state : State) → isClosed g (firstSets g) state ≡ true → {p r B t u : ℕ} {β η : List Symbol}
+      → HasItem state p (nonterminal B ∷ β) t → Rule g r B η → First (Rule g) β t u → HasItem state r η u
+  unfolding isClosed closedBehind
+  closing-found l checked state ok {B} {t} {u} {β} h r f =
+      let e : Entry = h .entry in
+      let rest : symbolsBehind g (e .item + 1) ≡ β = symbol-behind g (e .item) (h .behind) .1 in
+      let each = each-true (λ e. closedBehind g (firstSets g) state (symbolsBehind g (e .item)) (e .set)) (h .among) ok in
+      let here : hasProductions g B (first1 (terminalCount g) (firstSets g) β (e .set)) state ≡ true = rw (h .behind) at each in
+      let first : Has (first1 (terminalCount g) (firstSets g) β (e .set)) u =
+      rw rest at (first-behind-dot l g checked (e .item + 1) .ahead-some (e .set) t u (h .token) .1 (t, h .token, rw rest f)) in
+      productions-found (first1 (terminalCount g) (firstSets g) β (e .set)) state here r u first
+
+  moved-found : (x : Symbol) (state to : State) → eachOf (hasMoved g x to) state ≡ true
+      → (r u : ℕ) (ρ : List Symbol) → HasItem state r (x ∷ ρ) u → HasItem to r ρ u
+  unfolding hasMoved
+  moved-found x state to ok r u ρ h =
+      let e : Entry = h .entry in
+      let (before, rest) = symbol-behind g (e .item) (h .behind) in
+      let moved = implied-true (isBefore g x (e .item)) _ (each-true (hasMoved g x to) (h .among) ok) before in
+      let (same, inside) = both-true (eqb (at g (e .item + 1) .production) (at g (e .item) .production)) _ moved in
+      let (f, m, q, k) = item-found (e .item + 1) u to (within-true (e .set) (setOfItem (e .item + 1) to) .0 inside u (h .token)) in
+      record {
+        entry = f;
+        among = m;
+        number = rw q (eqb-true _ _ same ∙ h .number);
+        behind = rw q rest;
+        token = k;
+      }
+
+  moving-found : (states : List State) (state : State) → allMove g states state ≡ true → {p t : ℕ} {x : Symbol} {β : List Symbol} → HasItem state p (x ∷ β) t
+      → (to : State) × Among to states × ((r u : ℕ) (ρ : List Symbol) → HasItem state r (x ∷ ρ) u → HasItem to r ρ u)
+  unfolding allMove movesOver
+  moving-found states state ok {x} h =
+      let each = each-true (λ e. movesOver g states state (symbolsBehind g (e .item))) (h .among) ok in
+      let (to, m, moved) = some-true (λ to. eachOf (hasMoved g x to) state) states (rw (h .behind) at each) in
+      (to, m, moved-found x state to moved)
+
+  -- ---- the states are a closed family without conflict
+  module _ (l : Limits) (checked : Checked l g) (states : List State) (ok : covers g states ≡ true) where
+    record Parts : Type 0 where
+      starts : someOf (hasProductions g (start g) (eof (terminalCount g))) states ≡ true
+      closed : eachOf (isClosed g (firstSets g)) states ≡ true
+      move : eachOf (allMove g states) states ≡ true
+      clear : conflictCount g states ≡ 0
+
+    parts : Parts
+    unfolding covers
+    parts =
+        let (p₁, q₁) = both-true (someOf (hasProductions g (start g) (eof (terminalCount g))) states) _ ok in
+        let (p₂, q₂) = both-true (eachOf (isClosed g (firstSets g)) states) _ q₁ in
+        let (p₃, q₃) = both-true (eachOf (allMove g states) states) _ q₂ in
+        record { starts = p₁; closed = p₂; move = p₃; clear = eqb-true (conflictCount g states) 0 q₃ }
+
+    abbrev Member : Type 0
+    Member = (state : State) × Among state states
+
+    abbrev HasIn : Member → ℕ → List Symbol → ℕ → Type 0
+    HasIn q p β t = HasItem (q .0) p β t
+
+    closed-states : Closed (Rule g) (start g) (terminalCount g) Member HasIn
+    closed-states =
+        let (first, m, has-start) = some-true (hasProductions g (start g) (eof (terminalCount g))) states (parts .starts) in
+        record {
+          first = (first, m);
+          starts = λ r. productions-found (eof (terminalCount g)) first has-start r (terminalCount g) (has-eof (terminalCount g) (terminalCount g) .1 refl);
+          closes = λ {q} h r f. closing-found l checked (q .0) (each-true (isClosed g (firstSets g)) (q .1) (parts .closed)) h r f;
+          moves = λ {q} h.
+              let (to, m, moved) = moving-found states (q .0) (each-true (allMove g states) (q .1) (parts .move)) h in
+              ((to, m), moved);
+        }
+
+    no-conflicts-at : (q : Member) → conflictsAt g (q .0) ≡ 0
+    unfolding conflictCount
+    no-conflicts-at q = sum-zero (conflictsAt g) (q .1) (parts .clear)
+
+    states-have-no-conflict : NoConflict (Rule g) (start g) (terminalCount g) Member HasIn
+    states-have-no-conflict = record {
+      reduce-reduce = λ {q} {t = t} h k.
+          let same : h .entry ≡ k .entry =
+          one-reduction g (q .0) (no-conflicts-at q) t (h .among) (k .among) (h .behind) (k .behind) (h .token) (k .token) in
+          sym (h .number) ∙ ap (λ (e : Entry). at g (e .item) .production) same ∙ k .number;
+      shift-reduce = λ {q} h k. no-shift g (q .0) (no-conflicts-at q) (h .among) (k .among) (h .behind) (k .behind) (h .token);
+    }
+
+    pub covered-clear : Clear (Rule g) (start g) (terminalCount g)
+    covered-clear = family-clear (Rule g) (start g) (terminalCount g) Member HasIn closed-states states-have-no-conflict
+
+    pub covered-LR1 : IsLR1 g
+    covered-LR1 = clear→LR1 (Rule g) (start g) (terminalCount g) covered-clear
