@@ -6,7 +6,7 @@ use mathlib.Core.List.{List, [], _∷_, _++_, reverse, reverseAux, append-assoc,
 use Rattle.rules.specs.Grammar.{Symbol, nonterminal, terminal}
 use Rattle.knuth.specs.Derivations.{tokens, next, Step, Derives, done, step, Productive}
 use Rattle.knuth.specs.Meaning.{First, end}
-use Rattle.knuth.specs.Items.{At, start, move, close, Valid}
+use Rattle.knuth.specs.Items.{At, start, move, close, Awaits, Valid}
 use Rattle.knuth.proofs.Strings.{Stands, where-stands, no-nonterminal-in-tokens}
 use Rattle.knuth.proofs.Derivations.{tokens-append, derives-then, derives-between, rule-step}
 use Rattle.knuth.proofs.Productive.{fruitful-behind}
@@ -24,15 +24,7 @@ module _ (Rule : ℕ → ℕ → List Symbol → Type 0) (S Eof : ℕ) where
   item-rule (close i r f) = r
 
   -- ---- a symbol that was read stood behind the dot of some item
-  pub record Behind (γ : List Symbol) (x : Symbol) : Type 0 where
-    pub production : ℕ
-    pub left : ℕ
-    pub α : List Symbol
-    pub β : List Symbol
-    pub token : ℕ
-    pub item : At Rule S Eof γ production left α (x ∷ β) token
-
-  pub read-behind : {γ α β : List Symbol} {p A t : ℕ} {x : Symbol} → At Rule S Eof (x ∷ γ) p A α β t → Behind γ x
+  pub read-behind : {γ α β : List Symbol} {p A t : ℕ} {x : Symbol} → At Rule S Eof (x ∷ γ) p A α β t → Awaits Rule S Eof γ x
   read-behind (move i) = record { production = _; left = _; α = _; β = _; token = _; item = i }
   read-behind (close i r f) = read-behind i
 

@@ -8,12 +8,12 @@ use native.Mathlib.Nat.{add-zero}
 use lib.ListN.{length, length-append}
 use Rattle.rules.specs.Grammar.{Symbol, nonterminal, terminal}
 use Rattle.knuth.specs.Derivations.{tokens, next, Step, Derives, Productive}
-use Rattle.knuth.specs.Items.{At, Valid}
+use Rattle.knuth.specs.Items.{At, Awaits, Valid}
 use Rattle.knuth.specs.LR1.{Handle, LR1, Clear}
 use Rattle.knuth.proofs.Strings.{tokens-cut, Past, Ends, ends, same-end}
 use Rattle.knuth.proofs.Derivations.{tokens-append, derives-then, derives-between, step-between, last-step}
 use Rattle.knuth.proofs.Productive.{fruitful-behind, fruitful-derives-tokens}
-use Rattle.knuth.proofs.Items.{moves, Behind, read-behind, derived-item, valid-string, valid-used, at→valid}
+use Rattle.knuth.proofs.Items.{moves, read-behind, derived-item, valid-string, valid-used, at→valid}
 
 module _ (Rule : ℕ → ℕ → List Symbol → Type 0) (S Eof : ℕ) where
   -- ---- a handle is a reduction of the stack left of its end
@@ -32,12 +32,12 @@ module _ (Rule : ℕ → ℕ → List Symbol → Type 0) (S Eof : ℕ) where
       rw (reverseAux-append (s .before) (s .body) []) (moves Rule S Eof (s .body) i)
 
   -- ---- of two handles with a common beginning the ends are equal, or one is past the other by a token that was read
-  read-before : (δ : List Symbol) {γ α β : List Symbol} {p A t : ℕ} {x : Symbol} → At Rule S Eof (δ ++ (x ∷ γ)) p A α β t → Behind Rule S Eof γ x
+  read-before : (δ : List Symbol) {γ α β : List Symbol} {p A t : ℕ} {x : Symbol} → At Rule S Eof (δ ++ (x ∷ γ)) p A α β t → Awaits Rule S Eof γ x
   read-before [] i = read-behind Rule S Eof i
   read-before (y ∷ δ) i = read-before δ (read-behind Rule S Eof i .item)
 
   past-behind : {φ ψ α β : List Symbol} {u v : List ℕ} {p A t : ℕ} (q : Past φ u ψ v) → At Rule S Eof (reverse φ) p A α β t
-      → Behind Rule S Eof (reverse ψ) (terminal (q .token))
+      → Awaits Rule S Eof (reverse ψ) (terminal (q .token))
   past-behind {φ} {ψ} q i =
       let e : reverse φ ≡ reverse (tokens (q .more)) ++ (terminal (q .token) ∷ reverse ψ) =
       ap reverse (q .longer) ∙ reverse-append ψ (terminal (q .token) ∷ tokens (q .more))

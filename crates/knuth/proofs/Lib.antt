@@ -16,4 +16,5 @@ pub mod LR1
 pub mod Productions
 pub mod Productive
 pub mod Strings
+pub mod Table
 pub mod Trees

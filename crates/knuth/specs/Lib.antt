@@ -5,3 +5,4 @@ pub mod Items
 pub mod LR1
 pub mod Meaning
 pub mod Rules
+pub mod Table
