@@ -46,13 +46,18 @@ module _ (Rule : ℕ → ℕ → List Symbol → Type 0) (S Eof : ℕ) where
 
   -- ---- no conflict: LR(1)
   pub clear→LR1 : Clear Rule S Eof → LR1 Rule S Eof
-  clear→LR1 clear χ u v p m q h k same = go (ends (handled k) χ (k .last .behind) v (sym (handle-string k)))
+  clear→LR1 clear χ u v p m q h k same =
+      let (place, production) = go (ends (handled k) χ (k .last .behind) v (sym (handle-string k))) in
+      (omega arith, production)
     where
+      next-token : next Eof u ≡ next Eof v
+      next-token = same
+
       whole : (handled h ≡ χ) × (h .last .behind ≡ u)
       whole = same-end (handled h) χ (h .last .behind) u (sym (handle-string h)) (sym (h .end))
 
       i : At Rule S Eof (reverse χ) p (h .last .head) (reverse (h .last .body)) [] (next Eof v)
-      i = rw (← same) (rw (whole .0, whole .1) at (handle-item h))
+      i = rw (← next-token) (rw (whole .0, whole .1) at (handle-item h))
 
       go : Ends (handled k) (k .last .behind) χ v → (m ≡ length χ) × (q ≡ p)
       go (inl (e₁, e₂)) = (k .end ∙ ap length e₁, clear .reduce-reduce (rw (e₁, e₂) at (handle-item k)) i)

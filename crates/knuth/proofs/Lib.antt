@@ -17,4 +17,5 @@ pub mod Productions
 pub mod Productive
 pub mod Strings
 pub mod Table
+pub mod Theorems
 pub mod Trees
