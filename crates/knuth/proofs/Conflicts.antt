@@ -1,23 +1,22 @@
 -- What the symbols behind a dot say of the item's record, and what a conflict count of 0 says of a state.
 use Prim.Native.Nat.{ℕ, zero, suc, _+_, _<_}
-use mathlib.Core.Path.{_≡_, refl, sym, _∙_, ap}
-use mathlib.Core.Logic.{_⊎_, inl, inr, ⊎-elim}
+use mathlib.Core.Path.{_≡_, refl, sym}
+use mathlib.Core.Logic.{⊎-elim}
 use mathlib.Core.Bool.{Bool, true, false, _&&_, not}
-use mathlib.Core.List.{List, [], _∷_, map, nil≢cons, cons≢nil, head-eq-of-cons-eq, tail-eq-of-cons-eq}
+use mathlib.Core.List.{List, [], _∷_, nil≢cons, cons≢nil, head-eq-of-cons-eq, tail-eq-of-cons-eq}
 use native.Mathlib.Omega.{arith}
 use native.Mathlib.Numerals.{add-one}
-use lib.ListN.{length, getD, drop}
-use lib.Dec.{eqb}
+use lib.ListN.{drop}
 use borrow.Author.Tests.{eq-eqb}
 use Rattle.base.specs.Pick.{pick}
 use Rattle.base.specs.Among.{Among, here, later}
-use Rattle.base.specs.Lists.{upTo, sum, keep, someOf}
+use Rattle.base.specs.Lists.{someOf}
 use Rattle.base.proofs.Lists.{among-cons, among-keep, upTo-among}
 use Rattle.base.proofs.Tests.{true-some, none-kept, sum-zero}
-use Rattle.rules.specs.Records.{Record, Grammar, at, past, isLeftSide}
+use Rattle.rules.specs.Records.{Grammar, at, isLeftSide}
 use Rattle.rules.specs.Tokens.{TokenSet, Has, has, disjoint}
 use Rattle.rules.specs.Grammar.{Symbol, nonterminal, terminal, symbolOf, sameSymbol, atEnd, isBefore, sideOf, symbolsBehind, terminalCount}
-use Rattle.rules.specs.States.{Entry, State, reductions, shifts, holding, meeting, meetingPairs, conflictsAt, conflictCount}
+use Rattle.rules.specs.States.{Entry, State, reductions, shifts, holding, meeting, meetingPairs, conflictsAt}
 use Rattle.sets.proofs.Laws.{has-true, disjoint-true}
 use Rattle.knuth.proofs.Productions.{terminals-below}
 

@@ -1,7 +1,7 @@
 -- A grammar some states of which pass the test `covers` is LR(1).
 use Prim.Native.Nat.{ℕ, _+_}
 use mathlib.Core.Path.{_≡_, refl, sym, _∙_, ap}
-use mathlib.Core.Bool.{Bool, true, false, _&&_, _||_, not}
+use mathlib.Core.Bool.{Bool, true, false, _||_, not}
 use mathlib.Core.List.{List, [], _∷_}
 use lib.Dec.{eqb}
 use borrow.Author.Tests.{eqb-true, eq-eqb}
@@ -13,8 +13,8 @@ use Rattle.base.proofs.Tests.{both-true, implied-true, some-true, sum-zero}
 use Rattle.rules.specs.Limits.{Limits}
 use Rattle.rules.specs.Records.{Grammar, at}
 use Rattle.rules.specs.Tokens.{TokenSet, Has, within, eof}
-use Rattle.rules.specs.Grammar.{Symbol, nonterminal, terminal, isBefore, symbolsBehind, leftSides, start, terminalCount}
-use Rattle.rules.specs.First.{Sets, first1, firstSets}
+use Rattle.rules.specs.Grammar.{Symbol, nonterminal, isBefore, symbolsBehind, start, terminalCount}
+use Rattle.rules.specs.First.{first1, firstSets}
 use Rattle.rules.specs.States.{Entry, State, conflictsAt, conflictCount}
 use Rattle.sets.proofs.Laws.{has-none, has-eof, within-true}
 use Rattle.knuth.specs.Rules.{Rule}

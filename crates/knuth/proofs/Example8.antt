@@ -1,12 +1,12 @@
 -- Example 8 of document 01, S′→E; E→E a E, b, is not LR(1): E a E a b has handle (3, 1), and it has handle (5, 2).
-use Prim.Native.Nat.{ℕ, _<_}
+use Prim.Native.Nat.{ℕ}
 use mathlib.Core.Path.{_≡_, refl}
 use mathlib.Core.List.{List, [], _∷_}
 use native.Mathlib.Omega.{arith}
 use Rattle.rules.specs.Records.{records, at}
 use Rattle.rules.specs.Grammar.{Symbol, nonterminal, terminal, symbolsBehind, start, terminalCount}
 use Rattle.knuth.specs.Rules.{Rule}
-use Rattle.knuth.specs.Derivations.{Derives, done, step}
+use Rattle.knuth.specs.Derivations.{done, step}
 use Rattle.knuth.specs.LR1.{Handle, IsLR1}
 use Rattle.rules.proofs.Examples.{example8}
 use Rattle.knuth.proofs.Derivations.{rule-step}

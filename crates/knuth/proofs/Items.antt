@@ -1,9 +1,9 @@
 -- Knuth's items of a stack of symbols are the valid ones, both ways.
 use Prim.Native.Nat.{ℕ}
-use mathlib.Core.Path.{_≡_, refl, sym, _∙_, ap, ap₂}
-use mathlib.Core.Logic.{_⊎_, inl, inr}
+use mathlib.Core.Path.{_≡_, refl, sym, _∙_, ap₂}
+use mathlib.Core.Logic.{inl, inr}
 use mathlib.Core.List.{List, [], _∷_, _++_, reverse, reverseAux, append-assoc, nil≢cons, head-eq-of-cons-eq, tail-eq-of-cons-eq, reverseAux-eq, reverse-append, reverseAux-append, reverse-reverse}
-use Rattle.rules.specs.Grammar.{Symbol, nonterminal, terminal}
+use Rattle.rules.specs.Grammar.{Symbol, nonterminal}
 use Rattle.knuth.specs.Derivations.{tokens, next, Step, Derives, done, step, Productive}
 use Rattle.knuth.specs.Meaning.{First, end}
 use Rattle.knuth.specs.Items.{At, start, move, close, Awaits, Valid}

@@ -1,5 +1,5 @@
 -- A grammar is LR(1) by Knuth's definition exactly if no stack of symbols has a conflict.
-use Prim.Native.Nat.{ℕ, suc, _≤_, _<_, _+_}
+use Prim.Native.Nat.{ℕ, _<_, _+_}
 use mathlib.Core.Path.{_≡_, refl, sym, _∙_, ap}
 use mathlib.Core.Logic.{_⊎_, inl, inr}
 use mathlib.Core.List.{List, [], _∷_, _++_, reverse, reverseAux, append-assoc, append-nil, reverseAux-eq, reverse-append, reverseAux-append}
@@ -10,7 +10,7 @@ use Rattle.rules.specs.Grammar.{Symbol, nonterminal, terminal}
 use Rattle.knuth.specs.Derivations.{tokens, next, Step, Derives, Productive}
 use Rattle.knuth.specs.Items.{At, Awaits, Valid}
 use Rattle.knuth.specs.LR1.{Handle, LR1, Clear}
-use Rattle.knuth.proofs.Strings.{tokens-cut, Past, Ends, ends, same-end}
+use Rattle.knuth.proofs.Strings.{Past, Ends, ends, same-end}
 use Rattle.knuth.proofs.Derivations.{tokens-append, derives-then, derives-between, step-between, last-step}
 use Rattle.knuth.proofs.Productive.{fruitful-behind, fruitful-derives-tokens}
 use Rattle.knuth.proofs.Items.{moves, read-behind, derived-item, valid-string, valid-used, at→valid}

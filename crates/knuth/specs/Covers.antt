@@ -2,7 +2,7 @@
 --
 -- 0: S→A, 1: A→a, Eof being bit 1, passes with the entries (0, 2) (2, 2); (1, 2); (3, 2) of item and set.
 use Prim.Native.Nat.{ℕ, _+_}
-use mathlib.Core.Bool.{Bool, true, false, _&&_, _||_, not}
+use mathlib.Core.Bool.{Bool, true, _&&_, _||_, not}
 use mathlib.Core.List.{List, [], _∷_}
 use lib.Dec.{eqb}
 use Rattle.base.specs.Pick.{pick}

@@ -6,7 +6,7 @@
 use Prim.Native.Nat.{ℕ}
 use mathlib.Core.Path.{_≡_}
 use mathlib.Core.List.{List, [], _∷_, _++_, reverse, reverseAux}
-use Rattle.rules.specs.Grammar.{Symbol, nonterminal, terminal}
+use Rattle.rules.specs.Grammar.{Symbol, nonterminal}
 use Rattle.knuth.specs.Derivations.{tokens, next, Derives}
 use Rattle.knuth.specs.Meaning.{First}
 
