@@ -95,6 +95,11 @@ module _ {A : Type 0} where
   set-same (y ∷ l) zero d = refl
   set-same (y ∷ l) (suc a) d = ap₂ _∷_ refl (set-same l a d)
 
+  pub set-past : (l : List A) (a : ℕ) (x : A) → length l ≤ a → set l a x ≡ l
+  set-past [] a x h = refl
+  set-past (y ∷ l) zero x h = absurd (omega arith)
+  set-past (y ∷ l) (suc a) x h = ap₂ _∷_ refl (set-past l a x (omega arith))
+
   pub at-replicate : (n : ℕ) (d : A) (a : ℕ) → getD (replicate n d) a d ≡ d
   at-replicate zero d a = refl
   at-replicate (suc n) d zero = refl

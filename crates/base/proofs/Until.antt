@@ -1,6 +1,6 @@
 -- A loop that goes on until a test holds, and rounds over a list until nothing is left to do.
 use Prim.Native.Nat.{ℕ, zero, suc, _+_, _-_, _<_, _≤_}
-use mathlib.Core.Path.{_≡_, refl}
+use mathlib.Core.Path.{_≡_, refl, sym}
 use mathlib.Core.Bool.{Bool, true, false, true≢false}
 use mathlib.Core.List.{List, [], _∷_}
 use native.Mathlib.Omega.{arith}
@@ -52,7 +52,7 @@ module _ {ℓ κ} {A : Type 0} {B : Type ℓ} (step : A → B → B) (done : A �
   rest : {y : A} {xs : List A} → Steps (y ∷ xs) → Steps xs
   rest s = record { keeps = λ x m. s .keeps x (later m); rests = λ x m. s .rests x (later m); adds = λ x m. s .adds x (later m) }
 
-  size-stays : (xs : List A) → Steps xs → (b : B) → Inv b → size b ≤ size (foldOver step xs b)
+  pub size-stays : (xs : List A) → Steps xs → (b : B) → Inv b → size b ≤ size (foldOver step xs b)
   unfolding foldOver
   size-stays [] s b i = omega arith
   size-stays (x ∷ xs) s b i = omega (arith, size-stays xs (rest s) (step x b) (s .keeps x here b i), here-stays (done x b) refl)
@@ -61,7 +61,7 @@ module _ {ℓ κ} {A : Type 0} {B : Type ℓ} (step : A → B → B) (done : A �
       here-stays true e = rw (s .rests x here b i e) (omega arith)
       here-stays false e = omega (arith, s .adds x here b i e)
 
-  round-adds : (xs : List A) → Steps xs → (b : B) → Inv b → eachOf (λ x. done x b) xs ≡ false → size b < size (foldOver step xs b)
+  pub round-adds : (xs : List A) → Steps xs → (b : B) → Inv b → eachOf (λ x. done x b) xs ≡ false → size b < size (foldOver step xs b)
   unfolding foldOver eachOf
   round-adds [] s b i e = absurd (true≢false e)
   round-adds (x ∷ xs) s b i e = by-first (done x b) refl e (round-adds xs (rest s) b i)
@@ -70,6 +70,16 @@ module _ {ℓ κ} {A : Type 0} {B : Type ℓ} (step : A → B → B) (done : A �
           → (eachOf (λ x. done x b) xs ≡ false → size b < size (foldOver step xs b)) → size b < size (foldOver step xs (step x b))
       by-first true f e more = rw (s .rests x here b i f) (more e)
       by-first false f e more = omega (arith, s .adds x here b i f, size-stays xs (rest s) (step x b) (s .keeps x here b i))
+
+  pub round-rests : (xs : List A) → Steps xs → (b : B) → Inv b → eachOf (λ x. done x b) xs ≡ true → foldOver step xs b ≡ b
+  unfolding foldOver eachOf
+  round-rests [] s b i e = refl
+  round-rests (x ∷ xs) s b i e = by-first (done x b) refl e (round-rests xs (rest s) b i)
+    where
+      by-first : (d : Bool) → done x b ≡ d → pick d (eachOf (λ x. done x b) xs) false ≡ true
+          → (eachOf (λ x. done x b) xs ≡ true → foldOver step xs b ≡ b) → foldOver step xs (step x b) ≡ b
+      by-first true f e more = rw (s .rests x here b i f) (more e)
+      by-first false f e more = absurd (true≢false (sym e))
 
   -- with a bound on the size, as many rounds as can still add leave nothing to do
   module _ (xs : List A) (s : Steps xs) (top : ℕ) (bounded : (b : B) → Inv b → size b ≤ top) where

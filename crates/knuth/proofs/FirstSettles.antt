@@ -2,52 +2,24 @@
 use Prim.Native.Nat.{ℕ, _+_, _*_, _^_, _<_, _≤_}
 use mathlib.Core.Path.{_≡_, ap, _∙_}
 use mathlib.Core.Bool.{Bool, true, false}
-use mathlib.Core.List.{List, [], _∷_, map}
+use mathlib.Core.List.{List, [], _∷_}
 use native.Mathlib.Omega.{arith}
-use lib.ListN.{length, getD, set, length-set, replicate, length-replicate}
+use lib.ListN.{length, replicate, length-replicate}
 use Rattle.base.specs.Pick.{pick}
 use Rattle.base.specs.Among.{here, later}
-use Rattle.base.specs.Lists.{sum}
-use Rattle.base.proofs.Lists.{after-set, set-same, at-replicate, sum-set, sum-le}
+use Rattle.base.proofs.Lists.{at-replicate}
 use Rattle.base.proofs.Until.{Steps, rounds-end}
 use Rattle.rules.specs.Records.{Grammar, at}
-use Rattle.rules.specs.Tokens.{TokenSet, has, join, within, without}
+use Rattle.rules.specs.Tokens.{has, join, within, without}
 use Rattle.rules.specs.Grammar.{Symbol, nonterminal, terminal, symbolsBehind, leftSides, terminalCount, nonterminalCount}
-use Rattle.rules.specs.First.{Sets, setOf, joinAt, first0, addFirst, firstSettled, firstSets}
-use Rattle.sets.specs.Size.{size}
-use Rattle.sets.proofs.Laws.{none-below, single-below, join-below, without-below, join-within, size-le, size-grows}
+use Rattle.rules.specs.First.{Sets, setOf, first0, addFirst, firstSettled, firstSets}
+use Rattle.sets.proofs.Laws.{none-below, single-below, join-below, without-below}
+use Rattle.sets.proofs.Tables.{Narrow, mass, mass-le, joinAt-rests, joinAt-adds, joinAt-narrow, joinAt-length}
 use Rattle.knuth.specs.Coded.{TerminalsBelow, NonterminalsLeft}
 use Rattle.knuth.proofs.Productions.{terminals-below, left-below}
 
--- ---- a set joined to the set of a nonterminal
-joinAt-rests : (a : ℕ) (s : TokenSet) (sets : Sets) → within s (setOf sets a) ≡ true → joinAt a s sets ≡ sets
-unfolding joinAt setOf
-joinAt-rests a s sets e = ap (set sets a) (join-within (getD sets a 0) s e) ∙ set-same sets a 0
-
-joinAt-length : (a : ℕ) (s : TokenSet) (sets : Sets) → length (joinAt a s sets) ≡ length sets
-unfolding joinAt
-joinAt-length a s sets = length-set sets a _
-
 module _ (n : ℕ) where
-  -- the sets have no token over n
-  abbrev Narrow : Sets → Type 0
-  Narrow sets = (a : ℕ) → setOf sets a < 2 ^ (n + 1)
-
-  -- how many tokens they have together
-  abbrev mass : Sets → ℕ
-  mass sets = sum (map (size (n + 1)) sets)
-
-  joinAt-narrow : (a : ℕ) (s : TokenSet) (sets : Sets) → s < 2 ^ (n + 1) → Narrow sets → Narrow (joinAt a s sets)
-  unfolding joinAt setOf
-  joinAt-narrow a s sets b h = after-set (λ a q. q < 2 ^ (n + 1)) sets a (join (getD sets a 0) s) 0 (join-below (n + 1) _ _ (h a) b) h
-
-  joinAt-adds : (a : ℕ) (s : TokenSet) (sets : Sets) → a < length sets → s < 2 ^ (n + 1) → within s (setOf sets a) ≡ false
-      → mass sets < mass (joinAt a s sets)
-  unfolding joinAt setOf
-  joinAt-adds a s sets h b e =
-      omega (arith, sum-set (size (n + 1)) sets a (join (getD sets a 0) s) 0 h, size-grows (n + 1) (getD sets a 0) s b e)
-
-  first0-narrow : (sets : Sets) → Narrow sets → (xs : List Symbol) → TerminalsBelow n xs → first0 n sets xs < 2 ^ (n + 1)
+  pub first0-narrow : (sets : Sets) → Narrow n sets → (xs : List Symbol) → TerminalsBelow n xs → first0 n sets xs < 2 ^ (n + 1)
   unfolding first0
   first0-narrow sets s [] b = single-below (n + 1) n (omega arith)
   first0-narrow sets s (terminal u ∷ xs) b = single-below (n + 1) u (omega (arith, b u here))
@@ -75,8 +47,8 @@ module _ (g : Grammar) where
     steps : Steps (addFirst g n) done (mass n) InRange (leftSides g)
     unfolding addFirst
     steps = record {
-      keeps = λ i k sets (l, s). (joinAt-length _ _ sets ∙ l, joinAt-narrow n _ _ sets (first0-narrow n sets s _ (terminals-below g i)) s);
-      rests = λ i k sets s e. joinAt-rests _ _ sets e;
+      keeps = λ i k sets (l, s). (joinAt-length n _ _ sets ∙ l, joinAt-narrow n _ _ sets (first0-narrow n sets s _ (terminals-below g i)) s);
+      rests = λ i k sets s e. joinAt-rests n _ _ sets e;
       adds = λ i k sets (l, s) e. joinAt-adds n _ _ sets (rw l (left-below g left i k)) (first0-narrow n sets s _ (terminals-below g i)) e;
     }
 
@@ -84,6 +56,6 @@ module _ (g : Grammar) where
     unfolding firstSettled firstSets setOf
     first-sets-settled =
         let bounded : (sets : Sets) → InRange sets → mass n sets ≤ m * (n + 1) =
-        λ sets i. omega (arith, sum-le (size (n + 1)) (n + 1) (size-le (n + 1)) sets, ap (λ (k : ℕ). k * (n + 1)) (i .0)) in
+        λ sets i. omega (arith, mass-le n sets, ap (λ (k : ℕ). k * (n + 1)) (i .0)) in
         rounds-end (addFirst g n) done (mass n) InRange (leftSides g) steps (m * (n + 1)) bounded (m * (n + 1)) (replicate m 0)
         (length-replicate m 0, λ a. rw (at-replicate {A = ℕ} m 0 a) (none-below (n + 1))) (omega arith)

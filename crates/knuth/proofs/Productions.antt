@@ -67,7 +67,7 @@ terminal-counted {r} g m e =
     let q : pick (isTerminal r) (r .symbol + 1) 0 ≡ r .symbol + 1 = rw e in
     omega arith
 
-nonterminal-counted : {r : Record} (g : Grammar) → Among r g → isTerminal r ≡ false → r .symbol < nonterminalCount g
+pub nonterminal-counted : {r : Record} (g : Grammar) → Among r g → isTerminal r ≡ false → r .symbol < nonterminalCount g
 unfolding nonterminalCount
 nonterminal-counted {r} g m e =
     let h = le-greatest (among-map (λ (r : Record). pick (isTerminal r) 0 (r .symbol + 1)) m) in

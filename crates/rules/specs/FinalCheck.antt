@@ -73,13 +73,14 @@ module _ (g : Grammar) (sets : Sets) where
   unfolding foldOver satisfy
   satisfyState s least = foldOver (satisfy s) (getD least s []) least
 
-  unfoldable pub leastSettled : List State → Bool
+  -- of the states below count
+  unfoldable pub leastSettled : ℕ → List State → Bool
   unfolding eachOf satisfied upTo
-  leastSettled least = eachOf (λ s. eachOf (satisfied least s) (getD least s [])) (upTo (length least))
+  leastSettled count least = eachOf (λ s. eachOf (satisfied least s) (getD least s [])) (upTo count)
 
-  unfoldable pub leastRound : List State → List State
+  unfoldable pub leastRound : ℕ → List State → List State
   unfolding foldOver satisfyState upTo
-  leastRound least = foldOver satisfyState (upTo (length least)) least
+  leastRound count least = foldOver satisfyState (upTo count) least
 
   -- state 0's start item has Eof, every other entry nothing
   unfoldable pub leastBegun : List State → List State
@@ -90,7 +91,7 @@ module _ (g : Grammar) (sets : Sets) where
   -- entry and token
   unfoldable pub leastSets : List State → List State
   unfolding until leastSettled leastRound leastBegun itemCount terminalCount
-  leastSets states = until leastSettled leastRound (itemCount states * (terminalCount g + 1)) (leastBegun states)
+  leastSets states = until (leastSettled (length states)) (leastRound (length states)) (itemCount states * (terminalCount g + 1)) (leastBegun states)
 
   -- ---- the states that fail
   -- some reduction lacks a token of its least set

@@ -1,0 +1,262 @@
+-- The rounds of the final check end: one that is not the last adds one of n + 1 tokens to the set of an entry. So the least sets that
+-- `rules` computes have all that their entries ask for.
+use Prim.Native.Nat.{ℕ, zero, suc, _+_, _*_, _^_, _<_, _≤_}
+use mathlib.Core.Path.{_≡_, refl, sym, ap, ap₂, _∙_}
+use mathlib.Core.Logic.{⊎-elim}
+use mathlib.Core.Bool.{Bool, true, false, _&&_, _||_, not, true≢false, false≢true, and-eq-true-iff}
+use mathlib.Core.List.{List, [], _∷_, map}
+use native.Mathlib.Omega.{arith}
+use native.Mathlib.Decide.{decLe}
+use native.Mathlib.Nat.{add-mul}
+use lib.ListN.{length, getD, set, length-set, length-map, List·getD-eq-default}
+use lib.Dec.{eqb}
+use Rattle.base.specs.Pick.{pick}
+use Rattle.base.specs.Lists.{upTo, sum, eachOf}
+use Rattle.base.specs.Among.{Among, here, later}
+use Rattle.base.proofs.Lists.{among-none, among-cons, after-set, set-same, set-past, fold-keeps, sum-set, sum-le}
+use Rattle.base.proofs.Until.{Steps, round-adds, round-rests, rounds-end}
+use Rattle.rules.specs.Records.{Grammar}
+use Rattle.rules.specs.Tokens.{TokenSet, join, within, eof}
+use Rattle.rules.specs.Grammar.{terminalCount}
+use Rattle.rules.specs.First.{Sets, firstSets}
+use Rattle.rules.specs.States.{Entry, State, itemCount}
+use Rattle.rules.specs.FinalCheck.{withSet, haveSet, giveSet, haveAt, giveAt, movesOn, closes, closing, behindDot, satisfied, satisfy, satisfyState, leastSettled, leastRound, leastBegun, leastSets}
+use Rattle.sets.specs.Size.{size}
+use Rattle.sets.proofs.Laws.{none-below, single-below, join-below, join-within, within-join, size-le, size-within, size-grows}
+use Rattle.fuel.proofs.Closure.{first1-narrow}
+
+module _ (n : ℕ) where
+  -- ---- one state
+  -- no set of the state has a token over n
+  abbrev pub Small : State → Type 0
+  Small state = (e : Entry) → Among e state → e .set < 2 ^ (n + 1)
+
+  -- how many tokens the sets have together
+  abbrev stateMass : State → ℕ
+  stateMass state = sum (map (λ (e : Entry). size (n + 1) (e .set)) state)
+
+  give-length : (test : ℕ → Bool) (s : TokenSet) (state : State) → length (giveSet test s state) ≡ length state
+  unfolding giveSet
+  give-length test s state = length-map state _
+
+  give-rests : (test : ℕ → Bool) (s : TokenSet) (state : State) → haveSet test s state ≡ true → giveSet test s state ≡ state
+  unfolding giveSet haveSet eachOf
+  give-rests test s [] h = refl
+  give-rests test s (e ∷ es) h = by-tests (test (e .item)) (within s (e .set)) refl h (give-rests test s es)
+    where
+      by-tests : (b d : Bool) → within s (e .set) ≡ d → pick (not b || d) (haveSet test s es) false ≡ true → (haveSet test s es ≡ true → giveSet test s es ≡ es)
+          → pick b (withSet (join (e .set) s) e) e ∷ giveSet test s es ≡ e ∷ es
+      by-tests true true w h more = ap₂ _∷_ (ap (λ (q : TokenSet). withSet q e) (join-within (e .set) s w)) (more h)
+      by-tests true false w h more = absurd (false≢true h)
+      by-tests false d w h more = ap₂ _∷_ refl (more h)
+
+  -- giving never takes a token away, and gives one where one is missing
+  given-mass : (b : Bool) (s : TokenSet) (e : Entry) → size (n + 1) (e .set) ≤ size (n + 1) (pick b (withSet (join (e .set) s) e) e .set)
+  given-mass true s e = size-within (e .set) (join (e .set) s) (within-join (e .set) s) (n + 1)
+  given-mass false s e = omega arith
+
+  give-mass : (test : ℕ → Bool) (s : TokenSet) (state : State) → stateMass state ≤ stateMass (giveSet test s state)
+  unfolding giveSet sum
+  give-mass test s [] = omega arith
+  give-mass test s (e ∷ es) = omega (arith, give-mass test s es, given-mass (test (e .item)) s e)
+
+  give-adds : (test : ℕ → Bool) (s : TokenSet) → s < 2 ^ (n + 1) → (state : State) → haveSet test s state ≡ false → stateMass state < stateMass (giveSet test s state)
+  unfolding giveSet haveSet eachOf sum
+  give-adds test s b [] h = absurd (true≢false h)
+  give-adds test s b (e ∷ es) h = by-tests (test (e .item)) (within s (e .set)) refl h (give-adds test s b es)
+    where
+      by-tests : (t d : Bool) → within s (e .set) ≡ d → pick (not t || d) (haveSet test s es) false ≡ false
+          → (haveSet test s es ≡ false → stateMass es < stateMass (giveSet test s es))
+          → size (n + 1) (e .set) + stateMass es < size (n + 1) (pick t (withSet (join (e .set) s) e) e .set) + stateMass (giveSet test s es)
+      by-tests true true w h more = omega (arith, more h, given-mass true s e)
+      by-tests true false w h more = omega (arith, size-grows (n + 1) (e .set) s b w, give-mass test s es)
+      by-tests false d w h more = omega (arith, more h)
+
+  give-small : (test : ℕ → Bool) (s : TokenSet) → s < 2 ^ (n + 1) → (state : State) → Small state → Small (giveSet test s state)
+  unfolding giveSet
+  give-small test s b [] h e m = absurd (among-none m)
+  give-small test s b (x ∷ xs) h e m =
+      ⊎-elim (λ q. rw q (given (test (x .item)))) (λ k. give-small test s b xs (λ f i. h f (later i)) e k) (among-cons m)
+    where
+      given : (t : Bool) → pick t (withSet (join (x .set) s) x) x .set < 2 ^ (n + 1)
+      given true = join-below (n + 1) (x .set) s (h x here) b
+      given false = h x here
+
+  state-mass-le : (state : State) → stateMass state ≤ length state * (n + 1)
+  state-mass-le state = sum-le (λ (e : Entry). size (n + 1) (e .set)) (n + 1) (λ e. size-le (n + 1) (e .set)) state
+
+  -- ---- all states
+  abbrev AllSmall : List State → Type 0
+  AllSmall least = (s : ℕ) → Small (getD least s [])
+
+  abbrev leastMass : List State → ℕ
+  leastMass least = sum (map stateMass least)
+
+  least-mass-le : (least : List State) → leastMass least ≤ itemCount least * (n + 1)
+  unfolding itemCount sum
+  least-mass-le [] = omega arith
+  least-mass-le (state ∷ states) =
+      omega (arith, state-mass-le state, least-mass-le states, add-mul (length state) (itemCount states) (n + 1))
+
+  give-at-rests : (s : ℕ) (test : ℕ → Bool) (tokens : TokenSet) (least : List State) → haveAt least s test tokens ≡ true → giveAt s test tokens least ≡ least
+  unfolding giveAt haveAt
+  give-at-rests s test tokens least h = ap (set least s) (give-rests test tokens (getD least s []) h) ∙ set-same least s []
+
+  -- a state that is not there has all
+  have-past : (s : ℕ) (test : ℕ → Bool) (tokens : TokenSet) (least : List State) → length least ≤ s → haveAt least s test tokens ≡ true
+  unfolding haveAt haveSet eachOf
+  have-past s test tokens least h = rw (List·getD-eq-default least [] h)
+
+  give-at-adds : (s : ℕ) (test : ℕ → Bool) (tokens : TokenSet) → tokens < 2 ^ (n + 1) → (least : List State) → haveAt least s test tokens ≡ false
+      → leastMass least < leastMass (giveAt s test tokens least)
+  unfolding giveAt haveAt
+  give-at-adds s test tokens b least h = elim (decLe (length least) s) [
+    | yes p ↦ absurd (true≢false (sym (have-past s test tokens least p) ∙ h))
+    | no p ↦ omega (arith, sum-set stateMass least s (giveSet test tokens (getD least s [])) [] (omega arith), give-adds test tokens b (getD least s []) h)
+  ]
+
+  -- ---- what giving keeps: how many states and entries there are, and that sets are small
+  record Keeps (states least : List State) : Type 0 where
+    counts : length least ≡ length states
+    items : itemCount least ≡ itemCount states
+    small : AllSmall least
+
+  give-at-keeps : (s : ℕ) (test : ℕ → Bool) (tokens : TokenSet) → tokens < 2 ^ (n + 1) → (states least : List State) → Keeps states least
+      → Keeps states (giveAt s test tokens least)
+  unfolding giveAt itemCount
+  give-at-keeps s test tokens b states least k = record {
+    counts = length-set least s given ∙ k .counts;
+    items = same (decLe (length least) s) ∙ k .items;
+    small = after-set (λ s state. Small state) least s given [] (give-small test tokens b (getD least s []) (k .small s)) (k .small);
+  }
+    where
+      given : State
+      given = giveSet test tokens (getD least s [])
+
+      same : Dec (length least ≤ s) → itemCount (set least s given) ≡ itemCount least
+      same (yes p) = ap itemCount (set-past least s given p)
+      same (no p) = let e = give-length test tokens (getD least s []) in omega (arith, sum-set {A = State} length least s given [] (omega arith))
+
+  give-at-mass : (s : ℕ) (test : ℕ → Bool) (tokens : TokenSet) → tokens < 2 ^ (n + 1) → (least : List State)
+      → leastMass least ≤ leastMass (giveAt s test tokens least)
+  give-at-mass s test tokens b least = by-test (haveAt least s test tokens) refl
+    where
+      by-test : (d : Bool) → haveAt least s test tokens ≡ d → leastMass least ≤ leastMass (giveAt s test tokens least)
+      by-test true e = rw (give-at-rests s test tokens least e) (omega arith)
+      by-test false e = omega (arith, give-at-adds s test tokens b least e)
+
+  -- ---- sets that are all empty
+  emptied-small : (state : State) → Small (map (withSet 0) state)
+  emptied-small [] e m = absurd (among-none m)
+  emptied-small (x ∷ xs) e m = ⊎-elim (λ q. rw q (none-below (n + 1))) (emptied-small xs e) (among-cons m)
+
+  emptied-all-small : (states : List State) → AllSmall (map (map (withSet 0)) states)
+  emptied-all-small [] s e m = absurd (among-none m)
+  emptied-all-small (x ∷ xs) zero e m = emptied-small x e m
+  emptied-all-small (x ∷ xs) (suc s) e m = emptied-all-small xs s e m
+
+  emptied-items : (states : List State) → itemCount (map (map (withSet 0)) states) ≡ itemCount states
+  unfolding itemCount sum
+  emptied-items [] = refl
+  emptied-items (x ∷ xs) = ap₂ _+_ (length-map x (withSet 0)) (emptied-items xs)
+
+  emptied-keeps : (states : List State) → Keeps states (map (map (withSet 0)) states)
+  emptied-keeps states = record { counts = length-map states (map (withSet 0)); items = emptied-items states; small = emptied-all-small states }
+
+-- ---- the rounds, over the states of a grammar
+module _ (g : Grammar) (states : List State) where
+  abbrev n : ℕ
+  n = terminalCount g
+
+  abbrev sets : Sets
+  sets = firstSets g
+
+  abbrev moved : Entry → Bool → List State → List State
+  moved e b least = pick b (giveAt (e .next) (eqb (e .item + 1)) (e .set) least) least
+
+  abbrev closed : ℕ → Entry → Bool → List State → List State
+  closed s e b least = pick b (giveAt s (behindDot g sets e) (closing g sets e) least) least
+
+  closing-below : (e : Entry) → e .set < 2 ^ (n + 1) → closing g sets e < 2 ^ (n + 1)
+  unfolding closing
+  closing-below e b = first1-narrow g (e .item + 1) (e .set) b
+
+  module _ (s : ℕ) (e : Entry) (b : e .set < 2 ^ (n + 1)) where
+    moved-keeps : (d : Bool) (least : List State) → Keeps n states least → Keeps n states (moved e d least)
+    moved-keeps true least k = give-at-keeps n (e .next) (eqb (e .item + 1)) (e .set) b states least k
+    moved-keeps false least k = k
+
+    closed-keeps : (d : Bool) (least : List State) → Keeps n states least → Keeps n states (closed s e d least)
+    closed-keeps true least k = give-at-keeps n s (behindDot g sets e) (closing g sets e) (closing-below e b) states least k
+    closed-keeps false least k = k
+
+    satisfy-keeps : (least : List State) → Keeps n states least → Keeps n states (satisfy g sets s e least)
+    unfolding satisfy
+    satisfy-keeps least k = closed-keeps (closes g sets e) (moved e (movesOn g sets e) least) (moved-keeps (movesOn g sets e) least k)
+
+    moved-rests : (d : Bool) (least : List State) → (not d || haveAt least (e .next) (eqb (e .item + 1)) (e .set)) ≡ true → moved e d least ≡ least
+    moved-rests true least h = give-at-rests n (e .next) (eqb (e .item + 1)) (e .set) least h
+    moved-rests false least h = refl
+
+    closed-rests : (d : Bool) (least : List State) → (not d || haveAt least s (behindDot g sets e) (closing g sets e)) ≡ true → closed s e d least ≡ least
+    closed-rests true least h = give-at-rests n s (behindDot g sets e) (closing g sets e) least h
+    closed-rests false least h = refl
+
+    satisfy-rests : (least : List State) → satisfied g sets least s e ≡ true → satisfy g sets s e least ≡ least
+    unfolding satisfy satisfied
+    satisfy-rests least h =
+        let (p, q) = and-eq-true-iff (not (movesOn g sets e) || haveAt least (e .next) (eqb (e .item + 1)) (e .set)) _ .0 h in
+        ap (closed s e (closes g sets e)) (moved-rests (movesOn g sets e) least p) ∙ closed-rests (closes g sets e) least q
+
+    moved-adds : (d : Bool) (least : List State) → (not d || haveAt least (e .next) (eqb (e .item + 1)) (e .set)) ≡ false → leastMass n least < leastMass n (moved e d least)
+    moved-adds true least h = give-at-adds n (e .next) (eqb (e .item + 1)) (e .set) b least h
+    moved-adds false least h = absurd (true≢false h)
+
+    closed-adds : (d : Bool) (least : List State) → (not d || haveAt least s (behindDot g sets e) (closing g sets e)) ≡ false → leastMass n least < leastMass n (closed s e d least)
+    closed-adds true least h = give-at-adds n s (behindDot g sets e) (closing g sets e) (closing-below e b) least h
+    closed-adds false least h = absurd (true≢false h)
+
+    closed-mass : (d : Bool) (least : List State) → leastMass n least ≤ leastMass n (closed s e d least)
+    closed-mass true least = give-at-mass n s (behindDot g sets e) (closing g sets e) (closing-below e b) least
+    closed-mass false least = omega arith
+
+    satisfy-adds : (least : List State) → satisfied g sets least s e ≡ false → leastMass n least < leastMass n (satisfy g sets s e least)
+    unfolding satisfy satisfied
+    satisfy-adds least h = by-moved (not (movesOn g sets e) || haveAt least (e .next) (eqb (e .item + 1)) (e .set)) refl h
+      where
+        by-moved : (d : Bool) → (not (movesOn g sets e) || haveAt least (e .next) (eqb (e .item + 1)) (e .set)) ≡ d
+            → (d && (not (closes g sets e) || haveAt least s (behindDot g sets e) (closing g sets e))) ≡ false
+            → leastMass n least < leastMass n (closed s e (closes g sets e) (moved e (movesOn g sets e) least))
+        by-moved true p h = rw (moved-rests (movesOn g sets e) least p) (closed-adds (closes g sets e) least h)
+        by-moved false p h = omega (arith, moved-adds (movesOn g sets e) least p, closed-mass (closes g sets e) (moved e (movesOn g sets e) least))
+
+  -- ---- the entries of one state, and then all states
+  entry-steps : (s : ℕ) (entries : State) → Small n entries
+      → Steps (satisfy g sets s) (λ e least. satisfied g sets least s e) (leastMass n) (Keeps n states) entries
+  entry-steps s entries small = record {
+    keeps = λ e m least k. satisfy-keeps s e (small e m) least k;
+    rests = λ e m least k h. satisfy-rests s e (small e m) least h;
+    adds = λ e m least k h. satisfy-adds s e (small e m) least h;
+  }
+
+  state-steps : Steps (satisfyState g sets) (λ s least. eachOf (satisfied g sets least s) (getD least s [])) (leastMass n) (Keeps n states) (upTo (length states))
+  unfolding satisfyState
+  state-steps = record {
+    keeps = λ s m least k. fold-keeps (satisfy g sets s) (Keeps n states) (getD least s []) (entry-steps s (getD least s []) (k .small s) .keeps) least k;
+    rests = λ s m least k h. round-rests (satisfy g sets s) (λ e least. satisfied g sets least s e) (leastMass n) (Keeps n states) (getD least s []) (entry-steps s (getD least s []) (k .small s)) least k h;
+    adds = λ s m least k h. round-adds (satisfy g sets s) (λ e least. satisfied g sets least s e) (leastMass n) (Keeps n states) (getD least s []) (entry-steps s (getD least s []) (k .small s)) least k h;
+  }
+
+  mass-bounded : (least : List State) → Keeps n states least → leastMass n least ≤ itemCount states * (n + 1)
+  mass-bounded least k = omega (arith, least-mass-le n least, ap (λ (i : ℕ). i * (n + 1)) (k .items))
+
+  begun-keeps : Keeps n states (leastBegun g sets states)
+  unfolding leastBegun eof
+  begun-keeps =
+      give-at-keeps n 0 (eqb 0) (eof n) (single-below (n + 1) n (omega arith)) states (map (map (withSet 0)) states) (emptied-keeps n states)
+
+  pub least-settled : leastSettled g sets (length states) (leastSets g sets states) ≡ true
+  unfolding leastSettled leastSets leastRound
+  least-settled =
+      rounds-end (satisfyState g sets) (λ s least. eachOf (satisfied g sets least s) (getD least s [])) (leastMass n) (Keeps n states) (upTo (length states)) state-steps
+      (itemCount states * (n + 1)) mass-bounded (itemCount states * (n + 1)) (leastBegun g sets states) begun-keeps (omega arith)

@@ -1,0 +1,153 @@
+-- The states of lane mode are all visited within the limit: each turn visits one, and there are never more than the limit.
+use Prim.Native.Nat.{ℕ, zero, suc, _+_, _*_, _<_, _≤_}
+use mathlib.Core.Path.{_≡_, refl, _∙_}
+use mathlib.Core.Bool.{Bool, true, false}
+use mathlib.Core.List.{List, [], _∷_}
+use native.Mathlib.Omega.{arith}
+use lib.ListN.{length, getD, set, length-set, length-replicate, replicate}
+use lib.Dec.{ltb}
+use borrow.Author.Tests.{ltb-true}
+use Rattle.base.specs.Lists.{isEmpty}
+use Rattle.base.proofs.Lists.{fold-keeps}
+use Rattle.rules.specs.Limits.{Limits}
+use Rattle.rules.specs.Records.{Grammar}
+use Rattle.rules.specs.Tokens.{TokenSet, single}
+use Rattle.rules.specs.Grammar.{atStart}
+use Rattle.rules.specs.First.{Sets}
+use Rattle.rules.specs.States.{State, Outcome, done, refused}
+use Rattle.rules.specs.Lanes.{Action, shift, reduce, actionsAt, LaneTable, Trace, visit, addSuccessor, enter, unShift, unClose, traceAction, traceActions, laneTable, allColumns, pairwiseDisjoint, rowsDisjoint, beachheads}
+use Rattle.rules.specs.Merge.{Merge, clonesOf, headOf, groupColumns, eachInTurn, walk, takeColumns, takeAll, mergeBegun, merged, split, resolveBy, resolve, resolveFrom}
+use Rattle.sets.specs.Size.{size}
+use Rattle.fuel.proofs.Outcomes.{Holds, holds-pick, holds-also, holds-in-turn}
+use Rattle.fuel.proofs.Trace.{Kept, both-keep}
+use Rattle.fuel.proofs.Walk.{walk-further}
+
+-- ---- a lane table has a row for each state
+enter-length : (s c : ℕ) (tokens : TokenSet) (table : LaneTable) → length (enter s c tokens table) ≡ length table
+unfolding enter
+enter-length s c tokens table = length-set table s _
+
+successor-length : (s t : ℕ) (table : LaneTable) → length (addSuccessor s t table) ≡ length table
+unfolding addSuccessor
+successor-length s t table = length-set table s _
+
+module _ (g : Grammar) (sets : Sets) (states : List State) (s : ℕ) (within : s < length states) where
+  abbrev Rows : Trace → Type 0
+  Rows trace = length (trace .table) ≡ length states
+
+  rows-kept : (c : ℕ) → Kept g sets states c Rows
+  unfolding visit
+  rows-kept c = record {
+    visiting = λ s i trace b h. h;
+    linking = λ p s trace h. successor-length p s (trace .table) ∙ h;
+    entering = λ s tokens trace h. enter-length s c tokens (trace .table) ∙ h;
+  }
+
+  action-rows : (c : ℕ) (a : Action) (table : LaneTable) → length table ≡ length states → length (traceAction g sets states s c a table) ≡ length states
+  unfolding traceAction
+  action-rows c (shift t) table h = enter-length s c (single t) table ∙ h
+  action-rows c (reduce i) table h = by-dot (atStart g i)
+    where
+      fuel : ℕ
+      fuel = length states * length g + 1
+
+      begun : Trace
+      begun = record { table = enter s c 0 table; visited = replicate (length states) 0 }
+
+      rows : Rows begun
+      rows = enter-length s c 0 table ∙ h
+
+      by-dot : (b : Bool) → Rows (elim b [ true ↦ unClose g sets states fuel c s i begun | false ↦ unShift g sets states fuel c s i begun ])
+      by-dot true = both-keep g sets states c Rows (rows-kept c) fuel .closing s i begun within rows
+      by-dot false = both-keep g sets states c Rows (rows-kept c) fuel .shifting s i begun within rows
+
+  actions-rows : (c : ℕ) (actions : List Action) (table : LaneTable) → length table ≡ length states
+      → length (traceActions g sets states s c actions table) ≡ length states
+  unfolding traceActions
+  actions-rows c [] table h = h
+  actions-rows c (a ∷ actions) table h = actions-rows (suc c) actions (traceAction g sets states s c a table) (action-rows c a table h)
+
+  pub lane-table-rows : (actions : List Action) → length (laneTable g sets states s actions) ≡ length states
+  unfolding laneTable
+  lane-table-rows actions = actions-rows 0 actions _ (length-replicate (length states) _)
+
+-- ---- a visit stays within the limit
+module _ (l : Limits) (g : Grammar) where
+  abbrev Few : List State → Type 0
+  Few states = length states ≤ l .states
+
+  take-few : (table : LaneTable) (actions : List Action) (s : ℕ) (m : Merge) → Few (m .states) → Few (takeAll table actions s m)
+  unfolding takeAll
+  take-few table actions s m h =
+      fold-keeps (λ t states. set states t (takeColumns actions (groupColumns table m (headOf m t)) (getD states t []))) Few (s ∷ clonesOf m s)
+      (λ t among states k. omega (arith, length-set states t (takeColumns actions (groupColumns table m (headOf m t)) (getD states t [])))) (m .states) h
+
+  begun-few : (states : List State) → Few states → Few (mergeBegun states .states)
+  unfolding mergeBegun
+  begun-few states h = h
+
+  merged-few : (table : LaneTable) (actions : List Action) (s : ℕ) (o : Outcome Merge) → Holds (λ m. Few (m .states)) o → Holds Few (merged table actions s o)
+  unfolding merged
+  merged-few table actions s (done m) h = take-few table actions s m h
+  merged-few table actions s (refused why) h = tt
+
+  module _ (table : LaneTable) (rows : length table ≤ l .states) where
+    walk-few : (s : ℕ) (m : Merge) → Few (m .states) → Holds (λ m. Few (m .states)) (walk l g table (l .states + 1) s m)
+    walk-few s m h =
+        holds-also (λ m′. Few (m′ .states) × (size (l .states) (m .walked) ≤ size (l .states) (m′ .walked))) (λ m′. Few (m′ .states)) (λ m′ p. p .0)
+        (walk l g table (l .states + 1) s m) (walk-further l g table rows (l .states + 1) s m h)
+
+    split-few : (states : List State) (s : ℕ) (actions : List Action) → Few states → Holds Few (split l g states s actions table)
+    unfolding split
+    split-few states s actions h =
+        holds-pick Few (rowsDisjoint table) _ _
+        (λ _. merged-few table actions s (eachInTurn (walk l g table (l .states + 1)) (beachheads table) (mergeBegun states))
+        (holds-in-turn (λ m. Few (m .states)) (walk l g table (l .states + 1)) (beachheads table) (λ s among m k. walk-few s m k) (mergeBegun states) (begun-few states h)))
+        (λ _. tt)
+
+    resolve-by-few : (states : List State) (s : ℕ) (actions : List Action) → Few states → Holds Few (resolveBy l g states s actions table)
+    unfolding resolveBy
+    resolve-by-few states s actions h =
+        holds-pick Few (pairwiseDisjoint (allColumns table)) _ _
+        (λ _. omega (arith, length-set states s (takeColumns actions (allColumns table) (getD states s []))))
+        (λ _. split-few states s actions h)
+
+  resolve-few : (sets : Sets) (s : ℕ) (states : List State) → s < length states → Few states → Holds Few (resolve l g sets s states)
+  unfolding resolve
+  resolve-few sets s states b h =
+      let actions : List Action = actionsAt g (getD states s []) in
+      let table : LaneTable = laneTable g sets states s actions in
+      holds-pick Few (isEmpty actions) _ _ (λ _. h)
+      (λ _. holds-pick Few (ltb (l .actions) (length actions)) _ _ (λ _. tt)
+      (λ _. resolve-by-few table (omega (arith, lane-table-rows g sets states s b actions)) states s actions h))
+
+  -- ---- with fuel for one turn more than the limit leaves states, any larger fuel gives the same
+  module _ (sets : Sets) where
+    abbrev went-on : ℕ → ℕ → Outcome (List State) → Outcome (List State)
+    went-on fuel s o = elim o [ done states′ ↦ resolveFrom l g sets fuel (suc s) states′ | refused why ↦ refused why ]
+
+    abbrev turned : ℕ → ℕ → List State → Bool → Outcome (List State)
+    turned fuel s states b = elim b [ true ↦ went-on fuel s (resolve l g sets s states) | false ↦ done states ]
+
+    pub resolve-fuel : (fuel larger s : ℕ) (states : List State) → fuel ≤ larger → Few states → l .states ≤ s + fuel
+        → resolveFrom l g sets (suc larger) s states ≡ resolveFrom l g sets (suc fuel) s states
+    unfolding resolveFrom
+    resolve-fuel zero larger s states f h k = by-test (ltb s (length states)) refl
+      where
+        by-test : (b : Bool) → ltb s (length states) ≡ b → turned larger s states b ≡ turned zero s states b
+        by-test true e = absurd (omega (arith, ltb-true s (length states) e))
+        by-test false e = refl
+    resolve-fuel (suc fuel) zero s states f h k = absurd (omega arith)
+    resolve-fuel (suc fuel) (suc larger) s states f h k = by-test (ltb s (length states)) refl (resolve-fuel fuel larger (suc s))
+      where
+        Later : Type 0
+        Later = (states : List State) → fuel ≤ larger → Few states → l .states ≤ suc s + fuel
+            → resolveFrom l g sets (suc larger) (suc s) states ≡ resolveFrom l g sets (suc fuel) (suc s) states
+
+        by-next : (o : Outcome (List State)) → Holds Few o → Later → went-on (suc larger) s o ≡ went-on (suc fuel) s o
+        by-next (done states′) h more = more states′ (omega arith) h (omega arith)
+        by-next (refused why) h more = refl
+
+        by-test : (b : Bool) → ltb s (length states) ≡ b → Later → turned (suc larger) s states b ≡ turned (suc fuel) s states b
+        by-test true e more = by-next (resolve l g sets s states) (resolve-few sets s states (ltb-true s (length states) e) h) more
+        by-test false e more = refl

@@ -1,0 +1,177 @@
+-- The walk of the merge stops by its test: each call that goes on walks a state that was not walked, and there are never more than the
+-- limit.
+use Prim.Native.Nat.{ℕ, zero, suc, _+_, _<_, _≤_}
+use mathlib.Core.Path.{_≡_, refl}
+use mathlib.Core.Logic.{inr, ⊎-elim}
+use mathlib.Core.Bool.{Bool, true, false}
+use mathlib.Core.List.{List, [], _∷_}
+use native.Mathlib.Omega.{arith}
+use lib.ListN.{length, getD, length-append, length-set}
+use lib.Dec.{eqb, leb, ltb}
+use borrow.Author.Tests.{ltb-true, leb-false}
+use Rattle.base.specs.Pick.{pick}
+use Rattle.base.specs.Lists.{upTo}
+use Rattle.base.specs.Among.{Among}
+use Rattle.base.proofs.Lists.{among-at, among-cons, keep-among, upTo-among}
+use Rattle.rules.specs.Limits.{Limits}
+use Rattle.rules.specs.Records.{Grammar}
+use Rattle.rules.specs.Tokens.{has, single, join}
+use Rattle.rules.specs.States.{Outcome, done, refused, itemCount}
+use Rattle.rules.specs.Lanes.{LaneTable}
+use Rattle.rules.specs.Merge.{Merge, canJoin, joinGroups, clonesOf, cloneState, patchLinks, walkOn, joined, joinNew, firstJoining, Joining, withNew, joinSuccessor, successorsOf, eachInTurn, walk}
+use Rattle.sets.specs.Size.{size}
+use Rattle.sets.proofs.Laws.{has-false, has-join, has-single, within-join, size-le, size-within, size-strict}
+use Rattle.fuel.proofs.Outcomes.{Holds, holds-pick, holds-also, holds-in-turn, same-in-turn}
+
+module _ (l : Limits) (g : Grammar) (table : LaneTable) (rows : length table ≤ l .states) where
+  abbrev Fits : Merge → Type 0
+  Fits m = length (m .states) ≤ l .states
+
+  -- how many of the states that there can be are walked
+  abbrev walks : Merge → ℕ
+  walks m = size (l .states) (m .walked)
+
+  -- ---- joining a successor walks nothing, and stays within the limit
+  record Joins (walked : ℕ) (m : Merge) : Type 0 where
+    fits : Fits m
+    same : m .walked ≡ walked
+
+  joined-joins : (s successor t : ℕ) (m : Merge) → Fits m → Joins (m .walked) (joined g s successor t m)
+  unfolding joined joinGroups patchLinks
+  joined-joins s successor t m h = by-test (eqb t successor)
+    where
+      by-test : (b : Bool) → Joins (m .walked) (pick b (joinGroups s t m) (patchLinks g s successor t (joinGroups s t m)))
+      by-test true = record { fits = h; same = refl }
+      by-test false = record { fits = rw (length-set (m .states) s) h; same = refl }
+
+  abbrev Placed : Merge → Joining → Type 0
+  Placed m j = (j .with < l .states) × Joins (m .walked) (j .merge)
+
+  placed-new : (m : Merge) (o : Outcome Merge) (t : ℕ) → Holds (λ m′. (t < l .states) × Joins (m .walked) m′) o → Holds (Placed m) (withNew t o)
+  unfolding withNew
+  placed-new m (done m′) t p = p
+  placed-new m (refused why) t p = tt
+
+  clone-joins : (s successor : ℕ) (m : Merge) → length (m .states) < l .states
+      → Joins (m .walked) (joined g s successor (length (m .states)) (cloneState successor m))
+  unfolding cloneState
+  clone-joins s successor m room =
+      joined-joins s successor (length (m .states)) (cloneState successor m) (omega (arith, length-append (m .states) (getD (m .states) successor [] ∷ [])))
+
+  new-joins : (s successor : ℕ) (m : Merge) → Holds (λ m′. (length (m .states) < l .states) × Joins (m .walked) m′) (joinNew l g table s successor m)
+  unfolding joinNew
+  new-joins s successor m =
+      let clone : ℕ = length (m .states) in
+      let cloned : Merge = cloneState successor m in
+      let P : Merge → Type 0 = λ m′. (clone < l .states) × Joins (m .walked) m′ in
+      holds-pick P (leb (l .states) clone) _ _ (λ _. tt)
+      (λ full. let room : clone < l .states = omega (arith, leb-false (l .states) clone full) in
+      holds-pick P (ltb (l .items) (itemCount (cloned .states))) _ _ (λ _. tt)
+      (λ _. holds-pick P (canJoin table cloned s clone) _ _ (λ _. (room, clone-joins s successor m room)) (λ _. tt)))
+
+  clone-below : (m : Merge) (s c : ℕ) → Among c (clonesOf m s) → c < length (m .states)
+  unfolding clonesOf
+  clone-below m s c among = let (i, _) = keep-among _ (upTo (length (m .states))) among in upTo-among c (length (m .states)) .0 i
+
+  choice-below : (m : Merge) (successor t : ℕ) → Fits m → successor < l .states → Among t (successor ∷ clonesOf m successor) → t < l .states
+  choice-below m successor t h b i = ⊎-elim (λ e. rw e b) (λ c. omega (arith, clone-below m successor t c)) (among-cons i)
+
+  successor-joins : (s successor : ℕ) (m : Merge) → Fits m → successor < l .states → Holds (Placed m) (joinSuccessor l g table s successor m)
+  unfolding joinSuccessor
+  successor-joins s successor m h b =
+      let choices : List ℕ = successor ∷ clonesOf m successor in
+      let k : ℕ = firstJoining table m s choices in
+      holds-pick (Placed m) (ltb k (length choices)) _ _
+      (λ found. (choice-below m successor (getD choices k 0) h b (among-at choices k 0 (ltb-true k (length choices) found)), joined-joins s successor (getD choices k 0) m h))
+      (λ _. placed-new m (joinNew l g table s successor m) (length (m .states)) (new-joins s successor m))
+
+  -- ---- the walk only adds to the states walked
+  abbrev Further : ℕ → Merge → Type 0
+  Further n m = Fits m × (n ≤ walks m)
+
+  successor-below : (m : Merge) (s successor : ℕ) → Among successor (successorsOf table m s) → successor < l .states
+  unfolding successorsOf
+  successor-below m s successor among =
+      let (i, _) = keep-among _ (upTo (length table)) among in
+      omega (arith, upTo-among successor (length table) .0 i)
+
+  abbrev stepped : ℕ → Outcome Joining → Outcome Merge
+  stepped fuel o = elim o [ done j ↦ walk l g table fuel (j .with) (j .merge) | refused why ↦ refused why ]
+
+  abbrev walked-by : ℕ → ℕ → Merge → Bool → Outcome Merge
+  walked-by fuel s m b = elim b [
+    | true ↦ done m
+    | false ↦ eachInTurn (λ successor m. stepped fuel (joinSuccessor l g table s successor m)) (successorsOf table m s) (walkOn s m)
+  ]
+
+  walk-on-further : (s : ℕ) (m : Merge) → Fits m → Further (walks m) (walkOn s m)
+  unfolding walkOn
+  walk-on-further s m h = (h, size-within (m .walked) (join (m .walked) (single s)) (within-join (m .walked) (single s)) (l .states))
+
+  pub walk-further : (fuel s : ℕ) (m : Merge) → Fits m → Holds (Further (walks m)) (walk l g table fuel s m)
+  unfolding walk
+  walk-further zero s m h = (h, omega arith)
+  walk-further (suc fuel) s m h = by-test (has (m .walked) s) (walk-further fuel)
+    where
+      Later : Type 0
+      Later = (s : ℕ) (m : Merge) → Fits m → Holds (Further (walks m)) (walk l g table fuel s m)
+
+      by-joining : (m′ : Merge) (o : Outcome Joining) → Holds (Placed m′) o → Later → walks m ≤ walks m′ → Holds (Further (walks m)) (stepped fuel o)
+      by-joining m′ (done j) (b, p) more k =
+          let k′ : walks m ≤ walks (j .merge) = rw (p .same) k in
+          holds-also (Further (walks (j .merge))) (Further (walks m)) (λ m″ (f, q). (f, omega arith)) (walk l g table fuel (j .with) (j .merge))
+          (more (j .with) (j .merge) (p .fits))
+      by-joining m′ (refused why) p more k = tt
+
+      by-test : (b : Bool) → Later → Holds (Further (walks m)) (walked-by fuel s m b)
+      by-test true more = (h, omega arith)
+      by-test false more =
+          holds-in-turn (Further (walks m)) (λ successor m. stepped fuel (joinSuccessor l g table s successor m)) (successorsOf table m s)
+          (λ successor among m′ (f, k). by-joining m′ (joinSuccessor l g table s successor m′) (successor-joins s successor m′ f (successor-below m s successor among)) more k)
+          (walkOn s m) (walk-on-further s m h)
+
+  -- ---- a state that was not walked counts
+  walk-on-counts : (s : ℕ) (m : Merge) → s < l .states → has (m .walked) s ≡ false → walks m < walks (walkOn s m)
+  unfolding walkOn
+  walk-on-counts s m b e =
+      size-strict (m .walked) (join (m .walked) (single s)) (within-join (m .walked) (single s)) (l .states) s b
+      (has-join (m .walked) (single s) s .1 (inr (has-single s s .1 refl))) (has-false (m .walked) s .0 e)
+
+  -- with fuel for one call more than there are states to walk, any larger fuel gives the same
+  pub walk-fuel : (fuel larger s : ℕ) (m : Merge) → fuel ≤ larger → s < l .states → Fits m → l .states ≤ walks m + fuel
+      → walk l g table (suc larger) s m ≡ walk l g table (suc fuel) s m
+  unfolding walk
+  walk-fuel zero larger s m f b h k = by-test (has (m .walked) s) refl
+    where
+      by-test : (t : Bool) → has (m .walked) s ≡ t → walked-by larger s m t ≡ walked-by zero s m t
+      by-test true e = refl
+      by-test false e = absurd (omega (arith, walk-on-counts s m b e, size-le (l .states) (walkOn s m .walked)))
+  walk-fuel (suc fuel) zero s m f b h k = absurd (omega arith)
+  walk-fuel (suc fuel) (suc larger) s m f b h k = by-test (has (m .walked) s) refl (walk-fuel fuel larger)
+    where
+      Later : Type 0
+      Later = (s : ℕ) (m : Merge) → fuel ≤ larger → s < l .states → Fits m → l .states ≤ walks m + fuel
+          → walk l g table (suc larger) s m ≡ walk l g table (suc fuel) s m
+
+      Left : Merge → Type 0
+      Left m′ = Fits m′ × (l .states ≤ walks m′ + fuel)
+
+      agree : (m′ : Merge) (o : Outcome Joining) → Holds (Placed m′) o → Later → l .states ≤ walks m′ + fuel → stepped (suc larger) o ≡ stepped (suc fuel) o
+      agree m′ (done j) (w, p) more r = more (j .with) (j .merge) (omega arith) w (p .fits) (rw (p .same) r)
+      agree m′ (refused why) p more r = refl
+
+      left : (m′ : Merge) (o : Outcome Joining) → Holds (Placed m′) o → l .states ≤ walks m′ + fuel → Holds Left (stepped (suc fuel) o)
+      left m′ (done j) (w, p) r =
+          let r′ : l .states ≤ walks (j .merge) + fuel = rw (p .same) r in
+          holds-also (Further (walks (j .merge))) Left (λ m″ (f, q). (f, omega arith)) (walk l g table (suc fuel) (j .with) (j .merge))
+          (walk-further (suc fuel) (j .with) (j .merge) (p .fits))
+      left m′ (refused why) p r = tt
+
+      by-test : (t : Bool) → has (m .walked) s ≡ t → Later → walked-by (suc larger) s m t ≡ walked-by (suc fuel) s m t
+      by-test true e more = refl
+      by-test false e more =
+          same-in-turn Left (λ successor m. stepped (suc larger) (joinSuccessor l g table s successor m))
+          (λ successor m. stepped (suc fuel) (joinSuccessor l g table s successor m)) (successorsOf table m s)
+          (λ successor among m′ (f′, r). agree m′ (joinSuccessor l g table s successor m′) (successor-joins s successor m′ f′ (successor-below m s successor among)) more r)
+          (λ successor among m′ (f′, r). left m′ (joinSuccessor l g table s successor m′) (successor-joins s successor m′ f′ (successor-below m s successor among)) r)
+          (walkOn s m) (walk-on-further s m h .0, omega (arith, walk-on-counts s m b e))
