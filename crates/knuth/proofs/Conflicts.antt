@@ -80,15 +80,10 @@ one-holds t {e} {f} none (here {xs = es}) m h k =
 one-holds t {e} {f} none (later {y} {xs = es} l) m h k =
     ⊎-elim (λ q. absurd (none-meets t (y .set) es (omega arith) l (rw q at k) h)) (λ l′. one-holds t (omega arith) l l′ h k) (among-cons m)
 
-module _ (g : Grammar) (state : State) (none : conflictsAt g state ≡ 0) where
+module _ (g : Grammar) (state : State) where
   completed : {e : Entry} → Among e state → symbolsBehind g (e .item) ≡ [] → Among e (reductions g state)
   unfolding reductions
   completed {e} m b = among-keep (λ f. atEnd g (f .item)) m (end-behind g (e .item) b)
-
-  pub one-reduction : (t : ℕ) {e f : Entry} → Among e state → Among f state → symbolsBehind g (e .item) ≡ [] → symbolsBehind g (f .item) ≡ []
-      → Has (e .set) t → Has (f .set) t → e ≡ f
-  unfolding conflictsAt
-  one-reduction t m l b c h k = one-holds t (omega arith) (completed m b) (completed l c) h k
 
   shifted : {t : ℕ} {β : List Symbol} {f : Entry} → Among f state → symbolsBehind g (f .item) ≡ terminal t ∷ β → Among t (shifts g state)
   unfolding shifts
@@ -97,9 +92,15 @@ module _ (g : Grammar) (state : State) (none : conflictsAt g state ≡ 0) where
       among-keep (λ t. someOf (λ e. isBefore g (terminal t) (e .item)) state) (upTo-among t (terminalCount g) .1 below)
       (true-some (λ e. isBefore g (terminal t) (e .item)) m (symbol-behind g (f .item) b .0))
 
-  pub no-shift : {t : ℕ} {β : List Symbol} {e f : Entry} → Among e state → Among f state → symbolsBehind g (e .item) ≡ []
-      → symbolsBehind g (f .item) ≡ terminal t ∷ β → Has (e .set) t → ⊥
-  unfolding conflictsAt holding
-  no-shift {t} {e = e} m l b c h =
-      let zero-holding : holding t (reductions g state) ≡ 0 = sum-zero (λ t. holding t (reductions g state)) (shifted l c) (omega arith) in
-      none-kept (λ e. has (e .set) t) (reductions g state) zero-holding (completed m b) (has-true (e .set) t .1 h)
+  module _ (none : conflictsAt g state ≡ 0) where
+    pub one-reduction : (t : ℕ) {e f : Entry} → Among e state → Among f state → symbolsBehind g (e .item) ≡ [] → symbolsBehind g (f .item) ≡ []
+        → Has (e .set) t → Has (f .set) t → e ≡ f
+    unfolding conflictsAt
+    one-reduction t m l b c h k = one-holds t (omega arith) (completed m b) (completed l c) h k
+
+    pub no-shift : {t : ℕ} {β : List Symbol} {e f : Entry} → Among e state → Among f state → symbolsBehind g (e .item) ≡ []
+        → symbolsBehind g (f .item) ≡ terminal t ∷ β → Has (e .set) t → ⊥
+    unfolding conflictsAt holding
+    no-shift {t} {e = e} m l b c h =
+        let zero-holding : holding t (reductions g state) ≡ 0 = sum-zero (λ t. holding t (reductions g state)) (shifted l c) (omega arith) in
+        none-kept (λ e. has (e .set) t) (reductions g state) zero-holding (completed m b) (has-true (e .set) t .1 h)

@@ -103,54 +103,54 @@ module _ (g : Grammar) where
       (to, m, moved-found x state to moved)
 
   -- ---- the states are a closed family without conflict
-  module _ (l : Limits) (checked : Checked l g) (states : List State) (ok : covers g states ≡ true) where
-    record Parts : Type 0 where
-      starts : someOf (hasProductions g (start g) (eof (terminalCount g))) states ≡ true
-      closed : eachOf (isClosed g (firstSets g)) states ≡ true
-      move : eachOf (allMove g states) states ≡ true
-      clear : conflictCount g states ≡ 0
-
-    parts : Parts
-    unfolding covers
-    parts =
-        let (p₁, q₁) = both-true (someOf (hasProductions g (start g) (eof (terminalCount g))) states) _ ok in
-        let (p₂, q₂) = both-true (eachOf (isClosed g (firstSets g)) states) _ q₁ in
-        let (p₃, q₃) = both-true (eachOf (allMove g states) states) _ q₂ in
-        record { starts = p₁; closed = p₂; move = p₃; clear = eqb-true (conflictCount g states) 0 q₃ }
-
+  module _ (states : List State) where
     abbrev Member : Type 0
     Member = (state : State) × Among state states
 
     abbrev HasIn : Member → ℕ → List Symbol → ℕ → Type 0
     HasIn q p β t = HasItem (q .0) p β t
 
-    closed-states : Closed (Rule g) (start g) (terminalCount g) Member HasIn
-    closed-states =
-        let (first, m, has-start) = some-true (hasProductions g (start g) (eof (terminalCount g))) states (parts .starts) in
+    count-zero-no-conflict : conflictCount g states ≡ 0 → NoConflict Member HasIn
+    unfolding conflictCount
+    count-zero-no-conflict zero-count = record {
+      reduce-reduce = λ {q} {t = t} h k.
+          let same : h .entry ≡ k .entry =
+          one-reduction g (q .0) (none-at q) t (h .among) (k .among) (h .behind) (k .behind) (h .token) (k .token) in
+          sym (h .number) ∙ ap (λ (e : Entry). at g (e .item) .production) same ∙ k .number;
+      shift-reduce = λ {q} h k. no-shift g (q .0) (none-at q) (h .among) (k .among) (h .behind) (k .behind) (h .token);
+    }
+      where
+        none-at : (q : Member) → conflictsAt g (q .0) ≡ 0
+        none-at q = sum-zero (conflictsAt g) (q .1) zero-count
+
+    record Passed : Type 0 where
+      starts : someOf (hasProductions g (start g) (eof (terminalCount g))) states ≡ true
+      closed : eachOf (isClosed g (firstSets g)) states ≡ true
+      move : eachOf (allMove g states) states ≡ true
+      clear : conflictCount g states ≡ 0
+
+    passed : covers g states ≡ true → Passed
+    unfolding covers
+    passed ok =
+        let (p₁, q₁) = both-true (someOf (hasProductions g (start g) (eof (terminalCount g))) states) _ ok in
+        let (p₂, q₂) = both-true (eachOf (isClosed g (firstSets g)) states) _ q₁ in
+        let (p₃, q₃) = both-true (eachOf (allMove g states) states) _ q₂ in
+        record { starts = p₁; closed = p₂; move = p₃; clear = eqb-true (conflictCount g states) 0 q₃ }
+
+    closed-states : (l : Limits) → Checked l g → Passed → Closed (Rule g) (start g) (terminalCount g) Member HasIn
+    closed-states l checked ok =
+        let (first, m, has-start) = some-true (hasProductions g (start g) (eof (terminalCount g))) states (ok .starts) in
         record {
           first = (first, m);
           starts = λ r. productions-found (eof (terminalCount g)) first has-start r (terminalCount g) (has-eof (terminalCount g) (terminalCount g) .1 refl);
-          closes = λ {q} h r f. closing-found l checked (q .0) (each-true (isClosed g (firstSets g)) (q .1) (parts .closed)) h r f;
+          closes = λ {q} h r f. closing-found l checked (q .0) (each-true (isClosed g (firstSets g)) (q .1) (ok .closed)) h r f;
           moves = λ {q} h.
-              let (to, m, moved) = moving-found states (q .0) (each-true (allMove g states) (q .1) (parts .move)) h in
+              let (to, m, moved) = moving-found states (q .0) (each-true (allMove g states) (q .1) (ok .move)) h in
               ((to, m), moved);
         }
 
-    no-conflicts-at : (q : Member) → conflictsAt g (q .0) ≡ 0
-    unfolding conflictCount
-    no-conflicts-at q = sum-zero (conflictsAt g) (q .1) (parts .clear)
-
-    states-have-no-conflict : NoConflict (Rule g) (start g) (terminalCount g) Member HasIn
-    states-have-no-conflict = record {
-      reduce-reduce = λ {q} {t = t} h k.
-          let same : h .entry ≡ k .entry =
-          one-reduction g (q .0) (no-conflicts-at q) t (h .among) (k .among) (h .behind) (k .behind) (h .token) (k .token) in
-          sym (h .number) ∙ ap (λ (e : Entry). at g (e .item) .production) same ∙ k .number;
-      shift-reduce = λ {q} h k. no-shift g (q .0) (no-conflicts-at q) (h .among) (k .among) (h .behind) (k .behind) (h .token);
-    }
-
-    pub covered-clear : Clear (Rule g) (start g) (terminalCount g)
-    covered-clear = family-clear (Rule g) (start g) (terminalCount g) Member HasIn closed-states states-have-no-conflict
-
-    pub covered-LR1 : IsLR1 g
-    covered-LR1 = clear→LR1 (Rule g) (start g) (terminalCount g) covered-clear
+    pub covered-LR1 : (l : Limits) → Checked l g → covers g states ≡ true → IsLR1 g
+    covered-LR1 l checked ok =
+        let clear : Clear (Rule g) (start g) (terminalCount g) =
+        family-clear (Rule g) (start g) (terminalCount g) Member HasIn (closed-states l checked (passed ok)) (count-zero-no-conflict (passed ok .clear)) in
+        clear→LR1 (Rule g) (start g) (terminalCount g) clear

@@ -4,7 +4,7 @@ use mathlib.Core.Path.{_≡_, refl}
 use mathlib.Core.List.{List, [], _∷_}
 use native.Mathlib.Omega.{arith}
 use Rattle.rules.specs.Records.{records, at}
-use Rattle.rules.specs.Grammar.{Symbol, nonterminal, terminal, symbolsBehind, start, terminalCount}
+use Rattle.rules.specs.Grammar.{Symbol, nonterminal, terminal, symbolsBehind, start}
 use Rattle.knuth.specs.Rules.{Rule}
 use Rattle.knuth.specs.Derivations.{done, step}
 use Rattle.knuth.specs.LR1.{Handle, IsLR1}
@@ -36,7 +36,7 @@ unfolding records example8 at symbolsBehind
 rule2 = record { leftSide = 6; within = omega arith; position = refl; number = refl; left = refl; right = refl }
 
 -- S′, E, E a E, E a b, (E a E) a b
-first-handle : Handle (Rule (records example8)) (start (records example8)) (terminalCount (records example8)) EaEab 3 1
+first-handle : Handle (Rule (records example8)) (start (records example8)) EaEab 3 1
 first-handle = record {
   form = E ∷ a ∷ b ∷ [];
   by = 0 ∷ 1 ∷ 2 ∷ [];
@@ -48,7 +48,7 @@ first-handle = record {
 }
 
 -- S′, E, E a E, E a E a E, E a E a (b)
-second-handle : Handle (Rule (records example8)) (start (records example8)) (terminalCount (records example8)) EaEab 5 2
+second-handle : Handle (Rule (records example8)) (start (records example8)) EaEab 5 2
 second-handle = record {
   form = E ∷ a ∷ E ∷ a ∷ E ∷ [];
   by = 0 ∷ 1 ∷ 1 ∷ [];

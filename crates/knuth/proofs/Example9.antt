@@ -31,4 +31,4 @@ unfolding covers states9
 states9-cover = refl
 
 pub example9-is-LR1 : IsLR1 (records example9)
-example9-is-LR1 = covered-LR1 (records example9) limits (checked limits example9 example9-coded) states9 states9-cover
+example9-is-LR1 = covered-LR1 (records example9) states9 limits (checked limits example9 example9-coded) states9-cover

@@ -18,11 +18,6 @@ module _ (Rule : ℕ → ℕ → List Symbol → Type 0) (S Eof : ℕ) where
   moves [] i = i
   moves (x ∷ η) i = moves η (move i)
 
-  pub item-rule : {γ α β : List Symbol} {p A t : ℕ} → At Rule S Eof γ p A α β t → Rule p A (reverseAux α β)
-  item-rule (start r) = r
-  item-rule (move i) = item-rule i
-  item-rule (close i r f) = r
-
   -- ---- a symbol that was read stood behind the dot of some item
   pub read-behind : {γ α β : List Symbol} {p A t : ℕ} {x : Symbol} → At Rule S Eof (x ∷ γ) p A α β t → Awaits Rule S Eof γ x
   read-behind (move i) = record { production = _; left = _; α = _; β = _; token = _; item = i }

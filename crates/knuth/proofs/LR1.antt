@@ -15,15 +15,16 @@ use Rattle.knuth.proofs.Derivations.{tokens-append, derives-then, deriv
 use Rattle.knuth.proofs.Productive.{fruitful-behind, fruitful-derives-tokens}
 use Rattle.knuth.proofs.Items.{moves, read-behind, derived-item, valid-string, valid-used, at→valid}
 
-module _ (Rule : ℕ → ℕ → List Symbol → Type 0) (S Eof : ℕ) where
-  -- ---- a handle is a reduction of the stack left of its end
-  abbrev handled : {φ : List Symbol} {n p : ℕ} → Handle Rule S Eof φ n p → List Symbol
+-- ---- a handle is a reduction of the stack left of its end
+module _ {Rule : ℕ → ℕ → List Symbol → Type 0} {S : ℕ} where
+  abbrev handled : {φ : List Symbol} {n p : ℕ} → Handle Rule S φ n p → List Symbol
   handled h = h .last .before ++ h .last .body
 
-  handle-string : {φ : List Symbol} {n p : ℕ} (h : Handle Rule S Eof φ n p) → φ ≡ handled h ++ tokens (h .last .behind)
+  handle-string : {φ : List Symbol} {n p : ℕ} (h : Handle Rule S φ n p) → φ ≡ handled h ++ tokens (h .last .behind)
   handle-string h = h .last .to ∙ sym (append-assoc (h .last .before) (h .last .body) (tokens (h .last .behind)))
 
-  handle-item : {φ : List Symbol} {n p : ℕ} (h : Handle Rule S Eof φ n p)
+module _ (Rule : ℕ → ℕ → List Symbol → Type 0) (S Eof : ℕ) where
+  handle-item : {φ : List Symbol} {n p : ℕ} (h : Handle Rule S φ n p)
       → At Rule S Eof (reverse (handled h)) p (h .last .head) (reverse (h .last .body)) [] (next Eof (h .last .behind))
   handle-item {p = p} h =
       let s = h .last in
@@ -72,7 +73,7 @@ module _ (Rule : ℕ → ℕ → List Symbol → Type 0) (S Eof : ℕ) where
       sym (ap length e ∙ length-append (reverse γ) β)
 
   valid-handle : {γ α β : List Symbol} {p A t : ℕ} (v : Valid Rule S Eof γ p A α β t)
-      → Handle Rule S Eof (reverse γ ++ (β ++ tokens (v .rest))) (length (reverse γ) + length β) p
+      → Handle Rule S (reverse γ ++ (β ++ tokens (v .rest))) (length (reverse γ) + length β) p
   valid-handle {α} {β} {A} v = record {
     form = _;
     by = v .by;
@@ -90,7 +91,7 @@ module _ (Rule : ℕ → ℕ → List Symbol → Type 0) (S Eof : ℕ) where
   }
 
   reduction-handle : {γ α : List Symbol} {p A t : ℕ} (v : Valid Rule S Eof γ p A α [] t)
-      → Handle Rule S Eof (reverse γ ++ tokens (v .rest)) (length (reverse γ)) p
+      → Handle Rule S (reverse γ ++ tokens (v .rest)) (length (reverse γ)) p
   reduction-handle v = rw add-zero at (valid-handle v)
 
   -- where t stands behind the dot, a handle ends past t
@@ -98,7 +99,7 @@ module _ (Rule : ℕ → ℕ → List Symbol → Type 0) (S Eof : ℕ) where
     rest : List ℕ
     place : ℕ
     production : ℕ
-    handle : Handle Rule S Eof (reverse γ ++ tokens (t ∷ rest)) place production
+    handle : Handle Rule S (reverse γ ++ tokens (t ∷ rest)) place production
     past : length (reverse γ) < place
 
   module _ {γ α β : List Symbol} {p A t u : ℕ} (v : Valid Rule S Eof γ p A α (terminal t ∷ β) u) (x : List ℕ) where
@@ -117,7 +118,7 @@ module _ (Rule : ℕ → ℕ → List Symbol → Type 0) (S Eof : ℕ) where
     later-by-step {q} {qs} {ω} d s =
         let δ : List Symbol = reverse γ ++ (terminal t ∷ []) in
         let d₁ : Derives Rule (nonterminal S ∷ []) (v .by ++ (p ∷ [])) (δ ++ (β ++ tokens (v .rest))) = rw append-assoc (valid-used Rule S Eof v) in
-        let h : Handle Rule S Eof (δ ++ (tokens x ++ tokens (v .rest))) (length ((δ ++ s .before) ++ s .body)) q = record {
+        let h : Handle Rule S (δ ++ (tokens x ++ tokens (v .rest))) (length ((δ ++ s .before) ++ s .body)) q = record {
           form = δ ++ (ω ++ tokens (v .rest));
           by = (v .by ++ (p ∷ [])) ++ qs;
           derivation = derives-then Rule d₁ (derives-between Rule δ (v .rest) d);

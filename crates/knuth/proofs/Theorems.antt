@@ -32,7 +32,7 @@ use Rattle.knuth.proofs.Items.{at→valid, valid→at}
 use Rattle.knuth.proofs.LR1.{clear→LR1, LR1→clear}
 use Rattle.knuth.proofs.Table.{table→clear, one-knuth-table}
 
-module _ (l : Limits) (bytes : List ℕ) (coded : grammarAnswer l bytes ≡ Coded) where
+module _ (bytes : List ℕ) where
   abbrev g : Grammar
   g = records bytes
 
@@ -40,27 +40,28 @@ module _ (l : Limits) (bytes : List ℕ) (coded : grammarAnswer l bytes ≡ Code
   abbrev n : ℕ
   n = terminalCount g
 
-  -- ---- 3. FIRST of what stands behind the dot of any item i: the mark, the terminals, and the tokens where b follows
-  pub first0-has-the-mark : (i : ℕ) → Has (first0 n (firstSets g) (symbolsBehind g i)) n ↔ Null (Rule g) (symbolsBehind g i)
-  first0-has-the-mark i = first-behind-dot l g (checked l bytes coded) i .empty
+  module _ (l : Limits) (coded : grammarAnswer l bytes ≡ Coded) where
+    -- ---- 3. FIRST of what stands behind the dot of any item i: the mark, the terminals, and the tokens where b follows
+    pub first0-has-the-mark : (i : ℕ) → Has (first0 n (firstSets g) (symbolsBehind g i)) n ↔ Null (Rule g) (symbolsBehind g i)
+    first0-has-the-mark i = first-behind-dot l g (checked l bytes coded) i .empty
 
-  pub first0-has-a-terminal : (i t : ℕ) → t < n → Has (first0 n (firstSets g) (symbolsBehind g i)) t ↔ Begins (Rule g) t (symbolsBehind g i)
-  first0-has-a-terminal i = first-behind-dot l g (checked l bytes coded) i .begins
+    pub first0-has-a-terminal : (i t : ℕ) → t < n → Has (first0 n (firstSets g) (symbolsBehind g i)) t ↔ Begins (Rule g) t (symbolsBehind g i)
+    first0-has-a-terminal i = first-behind-dot l g (checked l bytes coded) i .begins
 
-  pub first1-has-a-token : (i b t : ℕ) → Has (first1 n (firstSets g) (symbolsBehind g i) (single b)) t ↔ First (Rule g) (symbolsBehind g i) b t
-  first1-has-a-token i = first-behind-dot l g (checked l bytes coded) i .ahead-one
+    pub first1-has-a-token : (i b t : ℕ) → Has (first1 n (firstSets g) (symbolsBehind g i) (single b)) t ↔ First (Rule g) (symbolsBehind g i) b t
+    first1-has-a-token i = first-behind-dot l g (checked l bytes coded) i .ahead-one
 
-  -- ---- 4. the items of a stack of symbols are the valid ones
-  pub items-are-the-valid-ones : {γ α β : List Symbol} {p A t : ℕ} → At (Rule g) (start g) n γ p A α β t ↔ Valid (Rule g) (start g) n γ p A α β t
-  items-are-the-valid-ones = (at→valid (Rule g) (start g) n (checked-productive l g (checked l bytes coded)), valid→at (Rule g) (start g) n)
+    -- ---- 4. the items of a stack of symbols are the valid ones
+    pub items-are-the-valid-ones : {γ α β : List Symbol} {p A t : ℕ} → At (Rule g) (start g) n γ p A α β t ↔ Valid (Rule g) (start g) n γ p A α β t
+    items-are-the-valid-ones = (at→valid (Rule g) (start g) n (checked-productive l g (checked l bytes coded)), valid→at (Rule g) (start g) n)
 
-  -- ---- 5. LR(1), by the definition of 1965, exactly if no stack of symbols has a conflict
-  pub LR1-is-no-conflict : IsLR1 g ↔ Clear (Rule g) (start g) n
-  LR1-is-no-conflict = (LR1→clear (Rule g) (start g) n (checked-productive l g (checked l bytes coded)), clear→LR1 (Rule g) (start g) n)
+    -- ---- 5. LR(1), by the definition of 1965, exactly if no stack of symbols has a conflict
+    pub LR1-is-no-conflict : IsLR1 g ↔ Clear (Rule g) (start g) n
+    LR1-is-no-conflict = (LR1→clear (Rule g) (start g) n (checked-productive l g (checked l bytes coded)), clear→LR1 (Rule g) (start g) n)
 
-  -- ---- 6. a grammar that has Knuth's table is LR(1), and the table is the only one
-  pub knuth-table-shows-LR1 : {table : Table (List Symbol)} → KnuthTable (Rule g) (start g) n table → IsLR1 g
-  knuth-table-shows-LR1 k = LR1-is-no-conflict .1 (table→clear (Rule g) (start g) n k)
+    -- ---- 6. a grammar that has Knuth's table is LR(1), and the table is the only one
+    pub knuth-table-shows-LR1 : {table : Table (List Symbol)} → KnuthTable (Rule g) (start g) n table → IsLR1 g
+    knuth-table-shows-LR1 k = LR1-is-no-conflict .1 (table→clear (Rule g) (start g) n k)
 
-  pub one-table : {a b : Table (List Symbol)} → KnuthTable (Rule g) (start g) n a → KnuthTable (Rule g) (start g) n b → a ≡ b
-  one-table = one-knuth-table (Rule g) (start g) n
+    pub one-table : {a b : Table (List Symbol)} → KnuthTable (Rule g) (start g) n a → KnuthTable (Rule g) (start g) n b → a ≡ b
+    one-table = one-knuth-table (Rule g) (start g) n

@@ -31,7 +31,7 @@ use Rattle.knuth.specs.Derivations.{tokens, next, Step, Derives}
 use Rattle.knuth.specs.Items.{At}
 use Rattle.knuth.specs.Rules.{Rule}
 
-module _ (Rule : ℕ → ℕ → List Symbol → Type 0) (S Eof : ℕ) where
+module _ (Rule : ℕ → ℕ → List Symbol → Type 0) (S : ℕ) where
   -- the right sentential form φ has handle (n, p)
   pub record Handle (φ : List Symbol) (n p : ℕ) : Type 0 where
     pub form : List Symbol
@@ -40,16 +40,17 @@ module _ (Rule : ℕ → ℕ → List Symbol → Type 0) (S Eof : ℕ) where
     pub last : Step Rule p form φ
     pub end : n ≡ length (last .before ++ last .body)
 
-  abbrev pub LR1 : Type 0
-  LR1 = (χ : List Symbol) (u v : List ℕ) (p m q : ℕ)
-      → Handle (χ ++ tokens u) (length χ) p → Handle (χ ++ tokens v) m q
-      → next Eof u ≡ next Eof v
-      → (m ≡ length χ) × (q ≡ p)
+  module _ (Eof : ℕ) where
+    abbrev pub LR1 : Type 0
+    LR1 = (χ : List Symbol) (u v : List ℕ) (p m q : ℕ)
+        → Handle (χ ++ tokens u) (length χ) p → Handle (χ ++ tokens v) m q
+        → next Eof u ≡ next Eof v
+        → (m ≡ length χ) × (q ≡ p)
 
-  -- no stack of symbols has a conflict: two reductions at one token are by one production, and no token of a reduction is shifted
-  pub record Clear : Type 0 where
-    pub reduce-reduce : {γ α β : List Symbol} {p q A B t : ℕ} → At Rule S Eof γ p A α [] t → At Rule S Eof γ q B β [] t → p ≡ q
-    pub shift-reduce : {γ α β β′ : List Symbol} {p q A B t u : ℕ} → At Rule S Eof γ p A α [] t → At Rule S Eof γ q B β (terminal t ∷ β′) u → ⊥
+    -- no stack of symbols has a conflict: two reductions at one token are by one production, and no token of a reduction is shifted
+    pub record Clear : Type 0 where
+      pub reduce-reduce : {γ α β : List Symbol} {p q A B t : ℕ} → At Rule S Eof γ p A α [] t → At Rule S Eof γ q B β [] t → p ≡ q
+      pub shift-reduce : {γ α β β′ : List Symbol} {p q A B t u : ℕ} → At Rule S Eof γ p A α [] t → At Rule S Eof γ q B β (terminal t ∷ β′) u → ⊥
 
 -- a coded grammar is LR(1)
 abbrev pub IsLR1 : Grammar → Type 0
