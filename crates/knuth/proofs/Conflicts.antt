@@ -1,69 +1,22 @@
--- What the symbols behind a dot say of the item's record, and what a conflict count of 0 says of a state.
-use Prim.Native.Nat.{ℕ, zero, suc, _+_, _<_}
+-- What a conflict count of 0 says of a state: two reductions at one token are one entry, and no token of a reduction is shifted.
+use Prim.Native.Nat.{ℕ, _<_}
 use mathlib.Core.Path.{_≡_, refl, sym}
 use mathlib.Core.Logic.{⊎-elim}
-use mathlib.Core.Bool.{Bool, true, false, _&&_, not}
-use mathlib.Core.List.{List, [], _∷_, nil≢cons, cons≢nil, head-eq-of-cons-eq, tail-eq-of-cons-eq}
+use mathlib.Core.Bool.{Bool, true, false, not}
+use mathlib.Core.List.{List, [], _∷_}
 use native.Mathlib.Omega.{arith}
-use native.Mathlib.Numerals.{add-one}
-use lib.ListN.{drop}
-use borrow.Author.Tests.{eq-eqb}
-use Rattle.base.specs.Pick.{pick}
 use Rattle.base.specs.Among.{Among, here, later}
 use Rattle.base.specs.Lists.{someOf}
 use Rattle.base.proofs.Lists.{among-cons, among-keep, upTo-among}
 use Rattle.base.proofs.Tests.{true-some, none-kept, sum-zero}
-use Rattle.rules.specs.Records.{Grammar, at, isLeftSide}
+use Rattle.rules.specs.Records.{Grammar, at}
 use Rattle.rules.specs.Tokens.{TokenSet, Has, has, disjoint}
-use Rattle.rules.specs.Grammar.{Symbol, nonterminal, terminal, symbolOf, sameSymbol, atEnd, isBefore, sideOf, symbolsBehind, terminalCount}
+use Rattle.rules.specs.Grammar.{Symbol, terminal, atEnd, isBefore, symbolsBehind, terminalCount}
 use Rattle.rules.specs.States.{Entry, State, reductions, shifts, holding, meeting, meetingPairs, conflictsAt}
 use Rattle.sets.proofs.Laws.{has-true, disjoint-true}
 use Rattle.knuth.proofs.Productions.{terminals-below}
+use Rattle.knuth.proofs.Dots.{end-behind, symbol-behind}
 
-same-symbol : (x : Symbol) → sameSymbol x x ≡ true
-unfolding sameSymbol
-same-symbol (nonterminal A) = eq-eqb A A refl
-same-symbol (terminal t) = eq-eqb t t refl
-
-before-symbol : (b : Bool) (x y : Symbol) → b ≡ false → y ≡ x → (not b && sameSymbol y x) ≡ true
-before-symbol b x y e h = rw (e, h) (same-symbol x)
-
--- ---- the record behind the dot
-module _ {x : Symbol} {β : List Symbol} where
-  record-behind : (g : Grammar) (k : ℕ) → sideOf (drop k g) ≡ x ∷ β
-      → (isLeftSide (at g k) ≡ false) × (symbolOf (at g k) ≡ x) × (sideOf (drop (suc k) g) ≡ β)
-  unfolding sideOf at
-  record-behind [] zero e = absurd (nil≢cons e)
-  record-behind [] (suc k) e = absurd (nil≢cons e)
-  record-behind (r ∷ g) (suc k) e = record-behind g k e
-  record-behind (r ∷ g) zero e = go (isLeftSide r) refl e
-    where
-      go : (b : Bool) → isLeftSide r ≡ b → pick b [] (symbolOf r ∷ sideOf g) ≡ x ∷ β → (isLeftSide r ≡ false) × (symbolOf r ≡ x) × (sideOf g ≡ β)
-      go true h e = absurd (nil≢cons e)
-      go false h e = (h, head-eq-of-cons-eq e, tail-eq-of-cons-eq e)
-
-  pub symbol-behind : (g : Grammar) (i : ℕ) → symbolsBehind g i ≡ x ∷ β → (isBefore g x i ≡ true) × (symbolsBehind g (i + 1) ≡ β)
-  unfolding symbolsBehind isBefore
-  symbol-behind g i e =
-      let (left, same, rest) = record-behind g (i + 1) e in
-      (before-symbol (isLeftSide (at g (i + 1))) x (symbolOf (at g (i + 1))) left same, rw (← add-one (i + 1)) at rest)
-
-record-at-end : (g : Grammar) (k : ℕ) → sideOf (drop k g) ≡ [] → isLeftSide (at g k) ≡ true
-unfolding sideOf at isLeftSide
-record-at-end [] zero e = refl
-record-at-end [] (suc k) e = refl
-record-at-end (r ∷ g) (suc k) e = record-at-end g k e
-record-at-end (r ∷ g) zero e = go (isLeftSide r) e
-  where
-    go : (b : Bool) → pick b [] (symbolOf r ∷ sideOf g) ≡ [] → b ≡ true
-    go true e = refl
-    go false e = absurd (cons≢nil e)
-
-pub end-behind : (g : Grammar) (i : ℕ) → symbolsBehind g i ≡ [] → atEnd g i ≡ true
-unfolding symbolsBehind atEnd
-end-behind g i e = record-at-end g (i + 1) e
-
--- ---- a state whose conflict count is 0
 none-meets : (t : ℕ) (s : TokenSet) {f : Entry} (es : List Entry) → meeting s es ≡ 0 → Among f es → Has s t → Has (f .set) t → ⊥
 unfolding meeting
 none-meets t s {f} es none m h k = none-kept (λ e. not (disjoint s (e .set))) es none m (go (disjoint s (f .set)) refl)

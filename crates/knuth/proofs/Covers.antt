@@ -21,10 +21,11 @@ use Rattle.knuth.specs.Rules.{Rule}
 use Rattle.knuth.specs.Coded.{Checked}
 use Rattle.knuth.specs.Meaning.{First}
 use Rattle.knuth.specs.LR1.{Clear, IsLR1}
-use Rattle.knuth.specs.Covers.{setOfItem, hasProductions, closedBehind, isClosed, hasMoved, movesOver, allMove, covers}
+use Rattle.knuth.specs.Covers.{HasItem, setOfItem, hasProductions, closedBehind, isClosed, hasMoved, movesOver, allMove, covers}
 use Rattle.knuth.proofs.Productions.{left-side-of-rule}
 use Rattle.knuth.proofs.FirstSets.{first-behind-dot}
-use Rattle.knuth.proofs.Conflicts.{symbol-behind, one-reduction, no-shift}
+use Rattle.knuth.proofs.Dots.{symbol-behind}
+use Rattle.knuth.proofs.Conflicts.{one-reduction, no-shift}
 use Rattle.knuth.proofs.Family.{Closed, NoConflict, family-clear}
 use Rattle.knuth.proofs.LR1.{clear→LR1}
 
@@ -40,16 +41,8 @@ item-found i t (e ∷ es) h = go (eqb (e .item) i) refl h (λ k. item-found i t 
     go false q h more = let (f, m, p, k) = more h in (f, later m, p, k)
 
 module _ (g : Grammar) where
-  -- an entry of the state is an item of production p with β behind the dot, and has the token t
-  pub record HasItem (state : State) (p : ℕ) (β : List Symbol) (t : ℕ) : Type 0 where
-    pub entry : Entry
-    pub among : Among entry state
-    pub number : at g (entry .item) .production ≡ p
-    pub behind : symbolsBehind g (entry .item) ≡ β
-    pub token : Has (entry .set) t
-
   productions-found : {p A : ℕ} {η : List Symbol} (s : TokenSet) (state : State) → hasProductions g A s state ≡ true → Rule g p A η
-      → (t : ℕ) → Has s t → HasItem state p η t
+      → (t : ℕ) → Has s t → HasItem g state p η t
   unfolding hasProductions
   productions-found {A} s state ok r t h =
       let i : ℕ = r .leftSide in
@@ -66,7 +59,7 @@ module _ (g : Grammar) where
 
   -- ---- closing and moving
   closing-found : (l : Limits) → Checked l g → (state : State) → isClosed g (firstSets g) state ≡ true → {p r B t u : ℕ} {β η : List Symbol}
-      → HasItem state p (nonterminal B ∷ β) t → Rule g r B η → First (Rule g) β t u → HasItem state r η u
+      → HasItem g state p (nonterminal B ∷ β) t → Rule g r B η → First (Rule g) β t u → HasItem g state r η u
   unfolding isClosed closedBehind
   closing-found l checked state ok {B} {t} {u} {β} h r f =
       let e : Entry = h .entry in
@@ -78,7 +71,7 @@ module _ (g : Grammar) where
       productions-found (first1 (terminalCount g) (firstSets g) β (e .set)) state here r u first
 
   moved-found : (x : Symbol) (state to : State) → eachOf (hasMoved g x to) state ≡ true
-      → (r u : ℕ) (ρ : List Symbol) → HasItem state r (x ∷ ρ) u → HasItem to r ρ u
+      → (r u : ℕ) (ρ : List Symbol) → HasItem g state r (x ∷ ρ) u → HasItem g to r ρ u
   unfolding hasMoved
   moved-found x state to ok r u ρ h =
       let e : Entry = h .entry in
@@ -94,8 +87,8 @@ module _ (g : Grammar) where
         token = k;
       }
 
-  moving-found : (states : List State) (state : State) → allMove g states state ≡ true → {p t : ℕ} {x : Symbol} {β : List Symbol} → HasItem state p (x ∷ β) t
-      → (to : State) × Among to states × ((r u : ℕ) (ρ : List Symbol) → HasItem state r (x ∷ ρ) u → HasItem to r ρ u)
+  moving-found : (states : List State) (state : State) → allMove g states state ≡ true → {p t : ℕ} {x : Symbol} {β : List Symbol} → HasItem g state p (x ∷ β) t
+      → (to : State) × Among to states × ((r u : ℕ) (ρ : List Symbol) → HasItem g state r (x ∷ ρ) u → HasItem g to r ρ u)
   unfolding allMove movesOver
   moving-found states state ok {x} h =
       let each = each-true (λ e. movesOver g states state (symbolsBehind g (e .item))) (h .among) ok in
@@ -108,7 +101,7 @@ module _ (g : Grammar) where
     Member = (state : State) × Among state states
 
     abbrev HasIn : Member → ℕ → List Symbol → ℕ → Type 0
-    HasIn q p β t = HasItem (q .0) p β t
+    HasIn q p β t = HasItem g (q .0) p β t
 
     count-zero-no-conflict : conflictCount g states ≡ 0 → NoConflict Member HasIn
     unfolding conflictCount

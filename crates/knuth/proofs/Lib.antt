@@ -3,6 +3,7 @@ pub mod Collected
 pub mod Conflicts
 pub mod Covers
 pub mod Derivations
+pub mod Dots
 pub mod Example8
 pub mod Example9
 pub mod Family

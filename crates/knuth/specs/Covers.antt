@@ -1,18 +1,29 @@
--- A test over states of `rules`: they have the start's productions, are closed under closing and moving, and have no conflict.
+-- What a state of `rules` has of Knuth's items, and a test over states: they have the start's productions, are closed under closing and moving, and have no conflict.
 --
 -- 0: S→A, 1: A→a, Eof being bit 1, passes with the entries (0, 2) (2, 2); (1, 2); (3, 2) of item and set.
 use Prim.Native.Nat.{ℕ, _+_}
+use mathlib.Core.Path.{_≡_}
 use mathlib.Core.Bool.{Bool, true, _&&_, _||_, not}
 use mathlib.Core.List.{List, [], _∷_}
 use lib.Dec.{eqb}
 use Rattle.base.specs.Pick.{pick}
+use Rattle.base.specs.Among.{Among}
 use Rattle.base.specs.Lists.{someOf, eachOf}
 use Rattle.rules.specs.Records.{Grammar, at}
-use Rattle.rules.specs.Tokens.{TokenSet, within, eof}
+use Rattle.rules.specs.Tokens.{TokenSet, Has, within, eof}
 use Rattle.rules.specs.Grammar.{Symbol, nonterminal, terminal, isBefore, symbolsBehind, leftSides, start, terminalCount}
 use Rattle.rules.specs.First.{Sets, first1, firstSets}
 use Rattle.rules.specs.States.{Entry, State, conflictCount}
 
+-- an entry of the state is an item of production p with β behind the dot, and has the token t
+pub record HasItem (g : Grammar) (state : State) (p : ℕ) (β : List Symbol) (t : ℕ) : Type 0 where
+  pub entry : Entry
+  pub among : Among entry state
+  pub number : at g (entry .item) .production ≡ p
+  pub behind : symbolsBehind g (entry .item) ≡ β
+  pub token : Has (entry .set) t
+
+-- ---- productions
 -- the set of item i; empty where the state has no such item
 unfoldable pub setOfItem : ℕ → State → TokenSet
 setOfItem i [] = 0
