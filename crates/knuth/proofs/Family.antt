@@ -9,18 +9,18 @@ use Rattle.knuth.specs.Items.{At, start, move, close}
 use Rattle.knuth.specs.LR1.{Clear}
 use Rattle.knuth.proofs.Items.{read-behind}
 
+-- Has q p β t: the set q has an item of production p with β behind the dot and the token t
+pub record NoConflict (State : Type 0) (Has : State → ℕ → List Symbol → ℕ → Type 0) : Type 0 where
+  pub reduce-reduce : {q : State} {p r t : ℕ} → Has q p [] t → Has q r [] t → p ≡ r
+  pub shift-reduce : {q : State} {p r t u : ℕ} {ρ : List Symbol} → Has q p [] t → Has q r (terminal t ∷ ρ) u → ⊥
+
 module _ (Rule : ℕ → ℕ → List Symbol → Type 0) (S Eof : ℕ) where
-  -- Has q p β t: the set q has an item of production p with β behind the dot and the token t
   pub record Closed (State : Type 0) (Has : State → ℕ → List Symbol → ℕ → Type 0) : Type 0 where
     pub first : State
     pub starts : {p : ℕ} {η : List Symbol} → Rule p S η → Has first p η Eof
     pub closes : {q : State} {p r B t u : ℕ} {β η : List Symbol} → Has q p (nonterminal B ∷ β) t → Rule r B η → First Rule β t u → Has q r η u
     pub moves : {q : State} {p t : ℕ} {x : Symbol} {β : List Symbol} → Has q p (x ∷ β) t
         → (q′ : State) × ((r u : ℕ) (ρ : List Symbol) → Has q r (x ∷ ρ) u → Has q′ r ρ u)
-
-  pub record NoConflict (State : Type 0) (Has : State → ℕ → List Symbol → ℕ → Type 0) : Type 0 where
-    pub reduce-reduce : {q : State} {p r t : ℕ} → Has q p [] t → Has q r [] t → p ≡ r
-    pub shift-reduce : {q : State} {p r t u : ℕ} {ρ : List Symbol} → Has q p [] t → Has q r (terminal t ∷ ρ) u → ⊥
 
   module _ (State : Type 0) (Has : State → ℕ → List Symbol → ℕ → Type 0) (closed : Closed State Has) where
     abbrev Covers : List Symbol → State → Type 0

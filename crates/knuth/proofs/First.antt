@@ -1,9 +1,9 @@
 -- What FIRST says of derivations. `Null φ`: φ derives the empty string. `Begins t φ`: φ derives tokens that t begins. `First φ b t`: t
 -- begins φ, or φ is null and t is b.
 use Prim.Native.Nat.{ℕ}
-use mathlib.Core.Path.{_≡_, refl, sym, _∙_, ap}
+use mathlib.Core.Path.{_≡_, refl, _∙_}
 use mathlib.Core.Logic.{_⊎_, inl, inr}
-use mathlib.Core.List.{List, [], _∷_, _++_, reverse, append-nil, nil≢cons, cons≢nil, head-eq-of-cons-eq, tail-eq-of-cons-eq}
+use mathlib.Core.List.{List, [], _∷_, _++_, reverse, append-nil, nil≢cons, cons≢nil, head-eq-of-cons-eq}
 use Rattle.rules.specs.Grammar.{Symbol, nonterminal, terminal}
 use Rattle.knuth.specs.Derivations.{tokens, next, Derives, Trees, none, leaf, node, Fruitful, Productive}
 use Rattle.knuth.specs.Meaning.{Null, null, null-nonterminal, Begins, token, inside, past, First, end, now, expand}

@@ -1,12 +1,12 @@
 -- Knuth's items of a stack of symbols are the valid ones, both ways.
 use Prim.Native.Nat.{ℕ}
-use mathlib.Core.Path.{_≡_, refl, sym, _∙_, ap, ap₂}
-use mathlib.Core.Logic.{_⊎_, inl, inr}
+use mathlib.Core.Path.{_≡_, refl, sym, _∙_, ap₂}
+use mathlib.Core.Logic.{inl, inr}
 use mathlib.Core.List.{List, [], _∷_, _++_, reverse, reverseAux, append-assoc, nil≢cons, head-eq-of-cons-eq, tail-eq-of-cons-eq, reverseAux-eq, reverse-append, reverseAux-append, reverse-reverse}
-use Rattle.rules.specs.Grammar.{Symbol, nonterminal, terminal}
+use Rattle.rules.specs.Grammar.{Symbol, nonterminal}
 use Rattle.knuth.specs.Derivations.{tokens, next, Step, Derives, done, step, Productive}
 use Rattle.knuth.specs.Meaning.{First, end}
-use Rattle.knuth.specs.Items.{At, start, move, close, Valid}
+use Rattle.knuth.specs.Items.{At, start, move, close, Awaits, Valid}
 use Rattle.knuth.proofs.Strings.{Stands, where-stands, no-nonterminal-in-tokens}
 use Rattle.knuth.proofs.Derivations.{tokens-append, derives-then, derives-between, rule-step}
 use Rattle.knuth.proofs.Productive.{fruitful-behind}
@@ -18,21 +18,8 @@ module _ (Rule : ℕ → ℕ → List Symbol → Type 0) (S Eof : ℕ) where
   moves [] i = i
   moves (x ∷ η) i = moves η (move i)
 
-  pub item-rule : {γ α β : List Symbol} {p A t : ℕ} → At Rule S Eof γ p A α β t → Rule p A (reverseAux α β)
-  item-rule (start r) = r
-  item-rule (move i) = item-rule i
-  item-rule (close i r f) = r
-
   -- ---- a symbol that was read stood behind the dot of some item
-  pub record Behind (γ : List Symbol) (x : Symbol) : Type 0 where
-    pub production : ℕ
-    pub left : ℕ
-    pub α : List Symbol
-    pub β : List Symbol
-    pub token : ℕ
-    pub item : At Rule S Eof γ production left α (x ∷ β) token
-
-  pub read-behind : {γ α β : List Symbol} {p A t : ℕ} {x : Symbol} → At Rule S Eof (x ∷ γ) p A α β t → Behind γ x
+  pub read-behind : {γ α β : List Symbol} {p A t : ℕ} {x : Symbol} → At Rule S Eof (x ∷ γ) p A α β t → Awaits Rule S Eof γ x
   read-behind (move i) = record { production = _; left = _; α = _; β = _; token = _; item = i }
   read-behind (close i r f) = read-behind i
 

@@ -1,5 +1,5 @@
 -- A grammar is LR(1) by Knuth's definition exactly if no stack of symbols has a conflict.
-use Prim.Native.Nat.{ℕ, suc, _≤_, _<_, _+_}
+use Prim.Native.Nat.{ℕ, _<_, _+_}
 use mathlib.Core.Path.{_≡_, refl, sym, _∙_, ap}
 use mathlib.Core.Logic.{_⊎_, inl, inr}
 use mathlib.Core.List.{List, [], _∷_, _++_, reverse, reverseAux, append-assoc, append-nil, reverseAux-eq, reverse-append, reverseAux-append}
@@ -8,22 +8,23 @@ use native.Mathlib.Nat.{add-zero}
 use lib.ListN.{length, length-append}
 use Rattle.rules.specs.Grammar.{Symbol, nonterminal, terminal}
 use Rattle.knuth.specs.Derivations.{tokens, next, Step, Derives, Productive}
-use Rattle.knuth.specs.Items.{At, Valid}
+use Rattle.knuth.specs.Items.{At, Awaits, Valid}
 use Rattle.knuth.specs.LR1.{Handle, LR1, Clear}
-use Rattle.knuth.proofs.Strings.{tokens-cut, Past, Ends, ends, same-end}
+use Rattle.knuth.proofs.Strings.{Past, Ends, ends, same-end}
 use Rattle.knuth.proofs.Derivations.{tokens-append, derives-then, derives-between, step-between, last-step}
 use Rattle.knuth.proofs.Productive.{fruitful-behind, fruitful-derives-tokens}
-use Rattle.knuth.proofs.Items.{moves, Behind, read-behind, derived-item, valid-string, valid-used, at→valid}
+use Rattle.knuth.proofs.Items.{moves, read-behind, derived-item, valid-string, valid-used, at→valid}
 
-module _ (Rule : ℕ → ℕ → List Symbol → Type 0) (S Eof : ℕ) where
-  -- ---- a handle is a reduction of the stack left of its end
-  abbrev handled : {φ : List Symbol} {n p : ℕ} → Handle Rule S Eof φ n p → List Symbol
+-- ---- a handle is a reduction of the stack left of its end
+module _ {Rule : ℕ → ℕ → List Symbol → Type 0} {S : ℕ} where
+  abbrev handled : {φ : List Symbol} {n p : ℕ} → Handle Rule S φ n p → List Symbol
   handled h = h .last .before ++ h .last .body
 
-  handle-string : {φ : List Symbol} {n p : ℕ} (h : Handle Rule S Eof φ n p) → φ ≡ handled h ++ tokens (h .last .behind)
+  handle-string : {φ : List Symbol} {n p : ℕ} (h : Handle Rule S φ n p) → φ ≡ handled h ++ tokens (h .last .behind)
   handle-string h = h .last .to ∙ sym (append-assoc (h .last .before) (h .last .body) (tokens (h .last .behind)))
 
-  handle-item : {φ : List Symbol} {n p : ℕ} (h : Handle Rule S Eof φ n p)
+module _ (Rule : ℕ → ℕ → List Symbol → Type 0) (S Eof : ℕ) where
+  handle-item : {φ : List Symbol} {n p : ℕ} (h : Handle Rule S φ n p)
       → At Rule S Eof (reverse (handled h)) p (h .last .head) (reverse (h .last .body)) [] (next Eof (h .last .behind))
   handle-item {p = p} h =
       let s = h .last in
@@ -32,12 +33,12 @@ module _ (Rule : ℕ → ℕ → List Symbol → Type 0) (S Eof : ℕ) where
       rw (reverseAux-append (s .before) (s .body) []) (moves Rule S Eof (s .body) i)
 
   -- ---- of two handles with a common beginning the ends are equal, or one is past the other by a token that was read
-  read-before : (δ : List Symbol) {γ α β : List Symbol} {p A t : ℕ} {x : Symbol} → At Rule S Eof (δ ++ (x ∷ γ)) p A α β t → Behind Rule S Eof γ x
+  read-before : (δ : List Symbol) {γ α β : List Symbol} {p A t : ℕ} {x : Symbol} → At Rule S Eof (δ ++ (x ∷ γ)) p A α β t → Awaits Rule S Eof γ x
   read-before [] i = read-behind Rule S Eof i
   read-before (y ∷ δ) i = read-before δ (read-behind Rule S Eof i .item)
 
   past-behind : {φ ψ α β : List Symbol} {u v : List ℕ} {p A t : ℕ} (q : Past φ u ψ v) → At Rule S Eof (reverse φ) p A α β t
-      → Behind Rule S Eof (reverse ψ) (terminal (q .token))
+      → Awaits Rule S Eof (reverse ψ) (terminal (q .token))
   past-behind {φ} {ψ} q i =
       let e : reverse φ ≡ reverse (tokens (q .more)) ++ (terminal (q .token) ∷ reverse ψ) =
       ap reverse (q .longer) ∙ reverse-append ψ (terminal (q .token) ∷ tokens (q .more))
@@ -46,13 +47,18 @@ module _ (Rule : ℕ → ℕ → List Symbol → Type 0) (S Eof : ℕ) where
 
   -- ---- no conflict: LR(1)
   pub clear→LR1 : Clear Rule S Eof → LR1 Rule S Eof
-  clear→LR1 clear χ u v p m q h k same = go (ends (handled k) χ (k .last .behind) v (sym (handle-string k)))
+  clear→LR1 clear χ u v p m q h k same =
+      let (place, production) = go (ends (handled k) χ (k .last .behind) v (sym (handle-string k))) in
+      (omega arith, production)
     where
+      next-token : next Eof u ≡ next Eof v
+      next-token = same
+
       whole : (handled h ≡ χ) × (h .last .behind ≡ u)
       whole = same-end (handled h) χ (h .last .behind) u (sym (handle-string h)) (sym (h .end))
 
       i : At Rule S Eof (reverse χ) p (h .last .head) (reverse (h .last .body)) [] (next Eof v)
-      i = rw (← same) (rw (whole .0, whole .1) at (handle-item h))
+      i = rw (← next-token) (rw (whole .0, whole .1) at (handle-item h))
 
       go : Ends (handled k) (k .last .behind) χ v → (m ≡ length χ) × (q ≡ p)
       go (inl (e₁, e₂)) = (k .end ∙ ap length e₁, clear .reduce-reduce (rw (e₁, e₂) at (handle-item k)) i)
@@ -67,7 +73,7 @@ module _ (Rule : ℕ → ℕ → List Symbol → Type 0) (S Eof : ℕ) where
       sym (ap length e ∙ length-append (reverse γ) β)
 
   valid-handle : {γ α β : List Symbol} {p A t : ℕ} (v : Valid Rule S Eof γ p A α β t)
-      → Handle Rule S Eof (reverse γ ++ (β ++ tokens (v .rest))) (length (reverse γ) + length β) p
+      → Handle Rule S (reverse γ ++ (β ++ tokens (v .rest))) (length (reverse γ) + length β) p
   valid-handle {α} {β} {A} v = record {
     form = _;
     by = v .by;
@@ -85,7 +91,7 @@ module _ (Rule : ℕ → ℕ → List Symbol → Type 0) (S Eof : ℕ) where
   }
 
   reduction-handle : {γ α : List Symbol} {p A t : ℕ} (v : Valid Rule S Eof γ p A α [] t)
-      → Handle Rule S Eof (reverse γ ++ tokens (v .rest)) (length (reverse γ)) p
+      → Handle Rule S (reverse γ ++ tokens (v .rest)) (length (reverse γ)) p
   reduction-handle v = rw add-zero at (valid-handle v)
 
   -- where t stands behind the dot, a handle ends past t
@@ -93,7 +99,7 @@ module _ (Rule : ℕ → ℕ → List Symbol → Type 0) (S Eof : ℕ) where
     rest : List ℕ
     place : ℕ
     production : ℕ
-    handle : Handle Rule S Eof (reverse γ ++ tokens (t ∷ rest)) place production
+    handle : Handle Rule S (reverse γ ++ tokens (t ∷ rest)) place production
     past : length (reverse γ) < place
 
   module _ {γ α β : List Symbol} {p A t u : ℕ} (v : Valid Rule S Eof γ p A α (terminal t ∷ β) u) (x : List ℕ) where
@@ -112,7 +118,7 @@ module _ (Rule : ℕ → ℕ → List Symbol → Type 0) (S Eof : ℕ) where
     later-by-step {q} {qs} {ω} d s =
         let δ : List Symbol = reverse γ ++ (terminal t ∷ []) in
         let d₁ : Derives Rule (nonterminal S ∷ []) (v .by ++ (p ∷ [])) (δ ++ (β ++ tokens (v .rest))) = rw append-assoc (valid-used Rule S Eof v) in
-        let h : Handle Rule S Eof (δ ++ (tokens x ++ tokens (v .rest))) (length ((δ ++ s .before) ++ s .body)) q = record {
+        let h : Handle Rule S (δ ++ (tokens x ++ tokens (v .rest))) (length ((δ ++ s .before) ++ s .body)) q = record {
           form = δ ++ (ω ++ tokens (v .rest));
           by = (v .by ++ (p ∷ [])) ++ qs;
           derivation = derives-then Rule d₁ (derives-between Rule δ (v .rest) d);

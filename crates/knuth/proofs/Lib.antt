@@ -1,6 +1,9 @@
 pub mod Coded
 pub mod Collected
+pub mod Conflicts
+pub mod Covers
 pub mod Derivations
+pub mod Dots
 pub mod Example8
 pub mod Example9
 pub mod Family
@@ -14,4 +17,6 @@ pub mod LR1
 pub mod Productions
 pub mod Productive
 pub mod Strings
+pub mod Table
+pub mod Theorems
 pub mod Trees

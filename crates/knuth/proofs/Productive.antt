@@ -1,7 +1,6 @@
 -- If each nonterminal of every right side derives tokens, then every form does.
 use Prim.Native.Nat.{ℕ}
-use mathlib.Core.Path.{_≡_, sym}
-use mathlib.Core.List.{List, [], _∷_, _++_, reverse, reverseAux, append-nil}
+use mathlib.Core.List.{List, [], _∷_, _++_, reverse, reverseAux}
 use Rattle.rules.specs.Grammar.{Symbol, nonterminal, terminal}
 use Rattle.knuth.specs.Derivations.{tokens, Step, Derives, done, step, Trees, none, leaf, node, DerivesTokens, Fruitful, Productive}
 use Rattle.knuth.proofs.Trees.{derivation-of-trees, trees-of-derivation, trees-append}

@@ -1,6 +1,6 @@
 -- Strings of symbols: two ways to cut one, and strings that end in tokens.
-use Prim.Native.Nat.{ℕ, zero, suc, _+_}
-use mathlib.Core.Path.{_≡_, refl, sym, _∙_, ap, ap₂}
+use Prim.Native.Nat.{ℕ}
+use mathlib.Core.Path.{_≡_, refl, sym, ap, ap₂}
 use mathlib.Core.Logic.{_⊎_, inl, inr}
 use mathlib.Core.List.{List, [], _∷_, _++_, nil≢cons, cons≢nil, head-eq-of-cons-eq, tail-eq-of-cons-eq}
 use native.Mathlib.Omega.{arith}

@@ -6,7 +6,7 @@
 use Prim.Native.Nat.{ℕ}
 use mathlib.Core.Path.{_≡_}
 use mathlib.Core.List.{List, [], _∷_, _++_, reverse, reverseAux}
-use Rattle.rules.specs.Grammar.{Symbol, nonterminal, terminal}
+use Rattle.rules.specs.Grammar.{Symbol, nonterminal}
 use Rattle.knuth.specs.Derivations.{tokens, next, Derives}
 use Rattle.knuth.specs.Meaning.{First}
 
@@ -16,6 +16,21 @@ module _ (Rule : ℕ → ℕ → List Symbol → Type 0) (S Eof : ℕ) where
     move : {γ α β : List Symbol} {p A t : ℕ} {x : Symbol} → At γ p A α (x ∷ β) t → At (x ∷ γ) p A (x ∷ α) β t
     close : {γ α β η : List Symbol} {p q A B t u : ℕ}
         → At γ p A α (nonterminal B ∷ β) t → Rule q B η → First Rule β t u → At γ q B [] η u
+
+  -- some item of γ has x right behind the dot
+  pub record Awaits (γ : List Symbol) (x : Symbol) : Type 0 where
+    pub production : ℕ
+    pub left : ℕ
+    pub α : List Symbol
+    pub β : List Symbol
+    pub token : ℕ
+    pub item : At γ production left α (x ∷ β) token
+
+  -- a completed item of production p is at γ with the token t
+  pub record Reduces (γ : List Symbol) (p t : ℕ) : Type 0 where
+    pub left : ℕ
+    pub α : List Symbol
+    pub item : At γ p left α [] t
 
   -- the item A → α · β of production p with token t is valid at γ: γ is δ α, and S derives δ A w by rightmost steps, where t comes next
   -- in w

@@ -1,8 +1,8 @@
 pub mod Coded
+pub mod Covers
 pub mod Derivations
-pub mod Examples
-pub mod ItemSets
 pub mod Items
 pub mod LR1
 pub mod Meaning
 pub mod Rules
+pub mod Table

@@ -4,7 +4,7 @@ use Prim.Native.Nat.{ℕ, _<_}
 use mathlib.Core.Path.{_≡_}
 use mathlib.Core.List.{List}
 use lib.ListN.{length}
-use Rattle.rules.specs.Records.{Record, Grammar, at}
+use Rattle.rules.specs.Records.{Grammar, at}
 use Rattle.rules.specs.Grammar.{Symbol, symbolsBehind}
 
 -- production p of g is A → η: a left-side record has this number and this nonterminal, and η stands behind it
