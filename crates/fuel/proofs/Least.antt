@@ -23,7 +23,7 @@ use Rattle.rules.specs.States.{Entry, State, itemCount}
 use Rattle.rules.specs.FinalCheck.{withSet, haveSet, giveSet, haveAt, giveAt, movesOn, closes, closing, behindDot, satisfied, satisfy, satisfyState, leastSettled, leastRound, leastBegun, leastSets}
 use Rattle.sets.specs.Size.{size}
 use Rattle.sets.proofs.Laws.{none-below, single-below, join-below, join-within, within-join, size-le, size-within, size-grows}
-use Rattle.fuel.proofs.Closure.{first1-narrow}
+use Rattle.knuth.proofs.Closures.{first1-narrow}
 
 module _ (n : ℕ) where
   -- ---- one state

@@ -1,4 +1,3 @@
-pub mod Closure
 pub mod Least
 pub mod Outcomes
 pub mod Run

@@ -1,3 +1,4 @@
+pub mod Closures
 pub mod Coded
 pub mod Collected
 pub mod Conflicts
@@ -12,6 +13,7 @@ pub mod FirstComplete
 pub mod FirstSets
 pub mod FirstSettles
 pub mod FirstSound
+pub mod ItemSets
 pub mod Items
 pub mod LR1
 pub mod Productions

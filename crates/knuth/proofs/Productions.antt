@@ -52,7 +52,7 @@ terminal-record r t e = by-kind (isTerminal r) e
     by-kind true e = (refl, cc)
     by-kind false e = absurd (let z : _≡_ {A = ℕ} 0 1 = cc in omega arith)
 
-nonterminal-record : (r : Record) (a : ℕ) → symbolOf r ≡ nonterminal a → (isTerminal r ≡ false) × (r .symbol ≡ a)
+pub nonterminal-record : (r : Record) (a : ℕ) → symbolOf r ≡ nonterminal a → (isTerminal r ≡ false) × (r .symbol ≡ a)
 unfolding symbolOf
 nonterminal-record r a e = by-kind (isTerminal r) e
   where

@@ -7,7 +7,8 @@
 --   3. FirstSets                        FIRST as `rules` computes it is FIRST as it is meant
 --   4. Items                            Knuth's items of a stack of symbols are the valid ones
 --   5. LR1                              LR(1) exactly if no stack of symbols has a conflict
---   6. Table                            Knuth's unlimited table
+--   6. Table                            Knuth's unlimited table: at most one, and only without conflict
+--      Closures, ItemSets               the item sets of stacks, by `rules`' closures, are Knuth's, so every LR(1) grammar has the table
 --   Family, Covers                      states that cover a grammar's items without conflict show that it is LR(1)
 --   Example8, Example9                  the starred grammars: 8 is not LR(1), 9 is
 use Prim.Native.Nat.{ℕ, _<_}
@@ -26,10 +27,11 @@ use Rattle.knuth.specs.Meaning.{Null, Begins, First}
 use Rattle.knuth.specs.Items.{At, Valid}
 use Rattle.knuth.specs.LR1.{IsLR1, Clear}
 use Rattle.knuth.specs.Table.{KnuthTable}
-use Rattle.knuth.proofs.Coded.{checked, checked-productive}
+use Rattle.knuth.proofs.Coded.{checked, coded-has-a-record, checked-productive}
 use Rattle.knuth.proofs.FirstSets.{first-behind-dot}
 use Rattle.knuth.proofs.Items.{at→valid, valid→at}
 use Rattle.knuth.proofs.LR1.{clear→LR1, LR1→clear}
+use Rattle.knuth.proofs.ItemSets.{knuthTable, clear-has-table}
 use Rattle.knuth.proofs.Table.{table→clear, one-knuth-table}
 
 module _ (bytes : List ℕ) where
@@ -59,9 +61,15 @@ module _ (bytes : List ℕ) where
     pub LR1-is-no-conflict : IsLR1 g ↔ Clear (Rule g) (start g) n
     LR1-is-no-conflict = (LR1→clear (Rule g) (start g) n (checked-productive l g (checked l bytes coded)), clear→LR1 (Rule g) (start g) n)
 
-    -- ---- 6. a grammar that has Knuth's table is LR(1), and the table is the only one
-    pub knuth-table-shows-LR1 : {table : Table (List Symbol)} → KnuthTable (Rule g) (start g) n table → IsLR1 g
-    knuth-table-shows-LR1 k = LR1-is-no-conflict .1 (table→clear (Rule g) (start g) n k)
+    -- ---- 6. exactly the grammars that are LR(1) have Knuth's table, and it is the only one
+    pub LR1-is-having-knuths-table : IsLR1 g ↔ ((table : Table (List Symbol)) × KnuthTable (Rule g) (start g) n table)
+    LR1-is-having-knuths-table = (
+      (λ lr1.
+          let c = checked l bytes coded in
+          let some = coded-has-a-record l bytes coded in
+          (knuthTable l g c some, clear-has-table l g c some (LR1-is-no-conflict .0 lr1))),
+      (λ (table, k). LR1-is-no-conflict .1 (table→clear (Rule g) (start g) n k)),
+    )
 
     pub one-table : {a b : Table (List Symbol)} → KnuthTable (Rule g) (start g) n a → KnuthTable (Rule g) (start g) n b → a ≡ b
     one-table = one-knuth-table (Rule g) (start g) n

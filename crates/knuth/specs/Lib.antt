@@ -1,6 +1,7 @@
 pub mod Coded
 pub mod Covers
 pub mod Derivations
+pub mod ItemSets
 pub mod Items
 pub mod LR1
 pub mod Meaning

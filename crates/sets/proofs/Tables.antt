@@ -1,18 +1,40 @@
 -- A set for each nonterminal: what joining into one of them keeps, and how it counts.
 use Prim.Native.Nat.{ℕ, _+_, _^_, _<_, _≤_, _*_}
-use mathlib.Core.Path.{_≡_, ap, _∙_}
+use mathlib.Core.Path.{_≡_, refl, ap, _∙_}
+use mathlib.Core.Logic.{_⊎_, inl, inr, ⊎-elim}
 use mathlib.Core.Bool.{true, false}
 use mathlib.Core.List.{map}
 use native.Mathlib.Omega.{arith}
 use lib.ListN.{length, getD, set, length-set}
+use lib.Seq.{getD-set-same}
 use Rattle.base.specs.Lists.{sum}
 use Rattle.base.proofs.Lists.{after-set, set-same, sum-set, sum-le}
-use Rattle.rules.specs.Tokens.{TokenSet, join, within}
+use Rattle.rules.specs.Tokens.{TokenSet, Has, join, within}
 use Rattle.rules.specs.First.{Sets, setOf, joinAt}
 use Rattle.sets.specs.Size.{size}
-use Rattle.sets.proofs.Laws.{join-below, join-within, size-le, size-grows}
+use Rattle.sets.proofs.Laws.{has-join, join-below, join-within, size-le, size-grows}
 
--- sets of tokens up to n
+-- ---- what a joined table has
+-- every set has at least the tokens that it had
+abbrev pub Grows : Sets → Sets → Type 0
+Grows sets sets′ = (a t : ℕ) → Has (setOf sets a) t → Has (setOf sets′ a) t
+
+pub joinAt-grows : (a : ℕ) (s : TokenSet) (sets : Sets) → Grows sets (joinAt a s sets)
+unfolding joinAt setOf
+joinAt-grows a s sets =
+    after-set (λ b q. (t : ℕ) → Has (getD sets b 0) t → Has q t) sets a (join (getD sets a 0) s) 0 (λ t h. has-join (getD sets a 0) s t .1 (inl h)) (λ b t h. h)
+
+pub joinAt-has : (a : ℕ) (s : TokenSet) (sets : Sets) (t : ℕ) → a < length sets → Has s t → Has (setOf (joinAt a s sets) a) t
+unfolding joinAt setOf
+joinAt-has a s sets t b h = rw (getD-set-same sets a (join (getD sets a 0) s) 0 b) (has-join (getD sets a 0) s t .1 (inr h))
+
+pub joinAt-only : (a : ℕ) (s : TokenSet) (sets : Sets) (b t : ℕ) → Has (setOf (joinAt a s sets) b) t → Has (setOf sets b) t ⊎ ((b ≡ a) × Has s t)
+unfolding joinAt setOf
+joinAt-only a s sets =
+    after-set (λ b q. (t : ℕ) → Has q t → Has (getD sets b 0) t ⊎ ((b ≡ a) × Has s t)) sets a (join (getD sets a 0) s) 0
+    (λ t h. ⊎-elim inl (λ k. inr (refl, k)) (has-join (getD sets a 0) s t .0 h)) (λ b t h. inl h)
+
+-- ---- sets of tokens up to n
 module _ (n : ℕ) where
   abbrev pub Narrow : Sets → Type 0
   Narrow sets = (a : ℕ) → setOf sets a < 2 ^ (n + 1)

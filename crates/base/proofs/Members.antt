@@ -1,0 +1,23 @@
+-- What is among two lists one behind the other, and among what a function makes of a list.
+use mathlib.Core.Path.{_≡_}
+use mathlib.Core.Logic.{_⊎_, inl, inr, ⊎-elim}
+use mathlib.Core.List.{List, [], _∷_, _++_, map}
+use Rattle.base.specs.Among.{Among, here, later}
+use Rattle.base.proofs.Lists.{among-none, among-cons}
+
+module _ {A : Type 0} where
+  pub among-append : {x : A} (xs : List A) {ys : List A} → Among x (xs ++ ys) → Among x xs ⊎ Among x ys
+  among-append [] m = inr m
+  among-append {x} (y ∷ xs) m = ⊎-elim (λ e. inl (rw e here)) (λ k. ⊎-elim (λ i. inl (later i)) inr (among-append xs k)) (among-cons m)
+
+  pub append-left : {x : A} {xs : List A} (ys : List A) → Among x xs → Among x (xs ++ ys)
+  append-left ys here = here
+  append-left ys (later m) = later (append-left ys m)
+
+  pub append-right : {x : A} (xs : List A) {ys : List A} → Among x ys → Among x (xs ++ ys)
+  append-right [] m = m
+  append-right (y ∷ xs) m = later (append-right xs m)
+
+pub map-among : {A B : Type 0} (f : A → B) {y : B} (xs : List A) → Among y (map f xs) → (x : A) × Among x xs × (y ≡ f x)
+map-among f [] m = absurd (among-none m)
+map-among f (x ∷ xs) m = ⊎-elim (λ e. (x, here, e)) (λ k. let (z, i, e) = map-among f xs k in (z, later i, e)) (among-cons m)

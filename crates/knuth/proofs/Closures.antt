@@ -1,0 +1,222 @@
+-- The rounds of a closure end: one that is not the last adds one of n + 1 tokens to one of m sets. So the closure that `rules` computes
+-- has all that its items ask for.
+use Prim.Native.Nat.{ℕ, _+_, _*_, _^_, _<_, _≤_}
+use mathlib.Core.Path.{_≡_, refl, sym, ap, _∙_}
+use mathlib.Core.Bool.{Bool, true, false, _&&_, _||_, not, true≢false}
+use mathlib.Core.List.{List, _∷_, nil≢cons, head-eq-of-cons-eq, tail-eq-of-cons-eq}
+use native.Mathlib.Omega.{arith}
+use native.Mathlib.Decide.{decLe}
+use borrow.Author.Tests.{ne-eqb, not-true}
+use lib.ListN.{length, replicate, length-replicate, List·getD-eq-default}
+use Rattle.base.specs.Pick.{pick}
+use Rattle.base.specs.Among.{Among, here, later}
+use Rattle.base.specs.Lists.{foldOver}
+use Rattle.base.proofs.Lists.{among-at, at-replicate, fold-keeps, each-true}
+use Rattle.base.proofs.Tests.{both-true, implied-true}
+use Rattle.base.proofs.Until.{Steps, rounds-keep, rounds-end}
+use Rattle.rules.specs.Records.{Grammar, past, at, isTerminal, isLeftSide}
+use Rattle.rules.specs.Tokens.{TokenSet, Has, has, join, within, without}
+use Rattle.rules.specs.Grammar.{Symbol, nonterminal, terminal, symbolOf, atEnd, symbolsBehind, leftSides, terminalCount, nonterminalCount}
+use Rattle.rules.specs.First.{Sets, setOf, joinAt, first0, first1, addFirst, firstSettled, firstSets}
+use Rattle.rules.specs.States.{Entry, State, Follow, noSet, asks, ask, answeredBy, askEntries, askLeftSides, closureSettled, closureSets}
+use Rattle.sets.proofs.Laws.{within-true, none-below, join-below, without-below}
+use Rattle.sets.proofs.Tables.{Grows, joinAt-grows, joinAt-has, Narrow, mass, mass-le, joinAt-rests, joinAt-adds, joinAt-narrow, joinAt-length}
+use Rattle.knuth.proofs.Productions.{terminals-below, nonterminal-counted, nonterminal-record}
+use Rattle.knuth.proofs.Dots.{at-end-behind, not-at-end-behind}
+use Rattle.knuth.proofs.FirstSettles.{first0-narrow}
+
+-- a record that is not past the end is one of the grammar's
+pub not-at-end-within : (g : Grammar) (i : ℕ) → atEnd g i ≡ false → i + 1 < length g
+unfolding atEnd at past isLeftSide
+not-at-end-within g i e = elim (decLe (length g) (i + 1)) [
+  | yes h ↦ absurd (true≢false (rw (List·getD-eq-default g past h) at e))
+  | no h ↦ omega arith
+]
+
+-- a symbol behind the dot: the dot is not at the end
+not-at-end : (g : Grammar) (i : ℕ) {x : Symbol} {β : List Symbol} → symbolsBehind g i ≡ x ∷ β
+    → (atEnd g i ≡ false) × (symbolOf (at g (i + 1)) ∷ symbolsBehind g (i + 1) ≡ x ∷ β)
+not-at-end g i {x} {β} e = by-test (atEnd g i) refl
+  where
+    by-test : (b : Bool) → atEnd g i ≡ b → (b ≡ false) × (symbolOf (at g (i + 1)) ∷ symbolsBehind g (i + 1) ≡ x ∷ β)
+    by-test true p = absurd (nil≢cons (sym (at-end-behind g i p) ∙ e))
+    by-test false p = (refl, sym (not-at-end-behind g i p) ∙ e)
+
+module _ (g : Grammar) (follow : Follow) where
+  abbrev n : ℕ
+  n = terminalCount g
+
+  abbrev m : ℕ
+  m = nonterminalCount g
+
+  -- what a closure hands on has no token over n
+  abbrev pub FollowsNarrow : Type 0
+  FollowsNarrow = (i : ℕ) (s : TokenSet) → s < 2 ^ (n + 1) → follow (symbolsBehind g i) s < 2 ^ (n + 1)
+
+  abbrev InRange : Sets → Type 0
+  InRange sets = (length sets ≡ m) × Narrow n sets
+
+  asked-below : (i : ℕ) (s : TokenSet) → asks g follow i s ≡ true → at g (i + 1) .symbol < m
+  unfolding asks at
+  asked-below i s e = by-tests (noSet s) (atEnd g i) (isTerminal (at g (i + 1))) refl refl e
+    where
+      by-tests : (b d k : Bool) → atEnd g i ≡ d → isTerminal (at g (i + 1)) ≡ k → (not b && (not d && not k)) ≡ true → at g (i + 1) .symbol < m
+      by-tests true d k p q h = absurd (true≢false (sym h))
+      by-tests false true k p q h = absurd (true≢false (sym h))
+      by-tests false false true p q h = absurd (true≢false (sym h))
+      by-tests false false false p q h = nonterminal-counted g (among-at g (i + 1) past (not-at-end-within g i p)) q
+
+  ask-grows : (i : ℕ) (s : TokenSet) (sets : Sets) → Grows sets (ask g follow i s sets)
+  unfolding ask
+  ask-grows i s sets = by-test (asks g follow i s)
+    where
+      by-test : (d : Bool) → Grows sets (pick d (joinAt (at g (i + 1) .symbol) (follow (symbolsBehind g (i + 1)) s) sets) sets)
+      by-test true = joinAt-grows (at g (i + 1) .symbol) (follow (symbolsBehind g (i + 1)) s) sets
+      by-test false = λ a t h. h
+
+  ask-length : (i : ℕ) (s : TokenSet) (sets : Sets) → length (ask g follow i s sets) ≡ length sets
+  unfolding ask
+  ask-length i s sets = by-test (asks g follow i s)
+    where
+      by-test : (d : Bool) → length (pick d (joinAt (at g (i + 1) .symbol) (follow (symbolsBehind g (i + 1)) s) sets) sets) ≡ length sets
+      by-test true = joinAt-length n _ _ sets
+      by-test false = refl
+
+  -- an item asks exactly if it has a token and a nonterminal stands behind its dot
+  pub asks-behind : (i : ℕ) (s : TokenSet) (B : ℕ) {β : List Symbol} → symbolsBehind g i ≡ nonterminal B ∷ β → (s ≡ 0 → ⊥)
+      → (asks g follow i s ≡ true) × (at g (i + 1) .symbol ≡ B) × (symbolsBehind g (i + 1) ≡ β)
+  unfolding asks noSet
+  asks-behind i s B e some =
+      let (p, q) = not-at-end g i e in
+      let (k, f) = nonterminal-record (at g (i + 1)) B (head-eq-of-cons-eq q) in
+      (rw (p, k, ne-eqb s 0 some), f, tail-eq-of-cons-eq q)
+
+  pub behind-asks : (i : ℕ) (s : TokenSet) → asks g follow i s ≡ true → symbolsBehind g i ≡ nonterminal (at g (i + 1) .symbol) ∷ symbolsBehind g (i + 1)
+  unfolding asks symbolOf
+  behind-asks i s a =
+      let (_, q) = both-true (not (noSet s)) _ a in
+      let (p, k) = both-true (not (atEnd g i)) (not (isTerminal (at g (i + 1)))) q in
+      not-at-end-behind g i (not-true _ p) ∙ ap (λ (b : Bool). pick b (terminal (at g (i + 1) .symbol)) (nonterminal (at g (i + 1) .symbol)) ∷ symbolsBehind g (i + 1)) (not-true (isTerminal (at g (i + 1))) k)
+
+  module _ (narrow : FollowsNarrow) where
+    ask-keeps : (i : ℕ) (s : TokenSet) → s < 2 ^ (n + 1) → (sets : Sets) → InRange sets → InRange (ask g follow i s sets)
+    unfolding ask
+    ask-keeps i s b sets (l, h) = by-test (asks g follow i s)
+      where
+        by-test : (d : Bool) → InRange (pick d (joinAt (at g (i + 1) .symbol) (follow (symbolsBehind g (i + 1)) s) sets) sets)
+        by-test true = (joinAt-length n _ _ sets ∙ l, joinAt-narrow n _ _ sets (narrow (i + 1) s b) h)
+        by-test false = (l, h)
+
+    ask-rests : (i : ℕ) (s : TokenSet) (sets : Sets) → answeredBy g follow sets i s ≡ true → ask g follow i s sets ≡ sets
+    unfolding ask answeredBy
+    ask-rests i s sets e = by-test (asks g follow i s) e
+      where
+        by-test : (d : Bool) → (not d || within (follow (symbolsBehind g (i + 1)) s) (setOf sets (at g (i + 1) .symbol))) ≡ true
+            → pick d (joinAt (at g (i + 1) .symbol) (follow (symbolsBehind g (i + 1)) s) sets) sets ≡ sets
+        by-test true e = joinAt-rests n _ _ sets e
+        by-test false e = refl
+
+    ask-adds : (i : ℕ) (s : TokenSet) → s < 2 ^ (n + 1) → (sets : Sets) → InRange sets → answeredBy g follow sets i s ≡ false
+        → mass n sets < mass n (ask g follow i s sets)
+    unfolding ask answeredBy
+    ask-adds i s b sets (l, h) e = by-test (asks g follow i s) refl e
+      where
+        by-test : (d : Bool) → asks g follow i s ≡ d → (not d || within (follow (symbolsBehind g (i + 1)) s) (setOf sets (at g (i + 1) .symbol))) ≡ false
+            → mass n sets < mass n (pick d (joinAt (at g (i + 1) .symbol) (follow (symbolsBehind g (i + 1)) s) sets) sets)
+        by-test true a e = joinAt-adds n _ _ sets (rw l (asked-below i s a)) (narrow (i + 1) s b) e
+        by-test false a e = absurd (true≢false e)
+
+    steps : Steps (λ i sets. ask g follow i (setOf sets (at g i .symbol)) sets) (λ i sets. answeredBy g follow sets i (setOf sets (at g i .symbol))) (mass n) InRange (leftSides g)
+    steps = record {
+      keeps = λ i k sets (l, s). ask-keeps i (setOf sets (at g i .symbol)) (s (at g i .symbol)) sets (l, s);
+      rests = λ i k sets s e. ask-rests i (setOf sets (at g i .symbol)) sets e;
+      adds = λ i k sets (l, s) e. ask-adds i (setOf sets (at g i .symbol)) (s (at g i .symbol)) sets (l, s) e;
+    }
+
+    entries-keep : (kernel : State) → ((e : Entry) → Among e kernel → e .set < 2 ^ (n + 1)) → (sets : Sets) → InRange sets → InRange (askEntries g follow kernel sets)
+    unfolding askEntries
+    entries-keep kernel small = fold-keeps (λ e sets. ask g follow (e .item) (e .set) sets) InRange kernel (λ e k sets r. ask-keeps (e .item) (e .set) (small e k) sets r)
+
+    begun-in-range : (kernel : State) → ((e : Entry) → Among e kernel → e .set < 2 ^ (n + 1)) → InRange (askEntries g follow kernel (replicate m 0))
+    unfolding setOf
+    begun-in-range kernel small = entries-keep kernel small (replicate m 0) (length-replicate m 0, λ a. rw (at-replicate {A = ℕ} m 0 a) (none-below (n + 1)))
+
+    -- a closure of a kernel whose sets have no token over n is settled
+    pub closure-settled : (kernel : State) → ((e : Entry) → Among e kernel → e .set < 2 ^ (n + 1)) → closureSettled g follow (closureSets g follow kernel) ≡ true
+    unfolding closureSettled closureSets askLeftSides setOf at
+    closure-settled kernel small =
+        let bounded : (sets : Sets) → InRange sets → mass n sets ≤ m * (n + 1) =
+        λ sets i. omega (arith, mass-le n sets, ap (λ (k : ℕ). k * (n + 1)) (i .0)) in
+        rounds-end (λ i sets. ask g follow i (setOf sets (at g i .symbol)) sets) (λ i sets. answeredBy g follow sets i (setOf sets (at g i .symbol))) (mass n) InRange
+        (leftSides g) steps (m * (n + 1)) bounded (m * (n + 1)) (askEntries g follow kernel (replicate m 0)) (begun-in-range kernel small) (omega arith)
+
+    pub closure-in-range : (kernel : State) → ((e : Entry) → Among e kernel → e .set < 2 ^ (n + 1)) → InRange (closureSets g follow kernel)
+    unfolding closureSets askLeftSides
+    closure-in-range kernel small =
+        rounds-keep (closureSettled g follow) (λ i sets. ask g follow i (setOf sets (at g i .symbol)) sets) InRange (leftSides g) (steps .keeps)
+        (m * (n + 1)) (askEntries g follow kernel (replicate m 0)) (begun-in-range kernel small)
+
+    -- ---- what an item asks for is there
+    ask-has : (i : ℕ) (s : TokenSet) (sets : Sets) (u : ℕ) → asks g follow i s ≡ true → length sets ≡ m → Has (follow (symbolsBehind g (i + 1)) s) u
+        → Has (setOf (ask g follow i s sets) (at g (i + 1) .symbol)) u
+    unfolding ask
+    ask-has i s sets u a l h = rw a (joinAt-has (at g (i + 1) .symbol) (follow (symbolsBehind g (i + 1)) s) sets u (rw l (asked-below i s a)) h)
+
+    entries-have : {e : Entry} {kernel : State} → Among e kernel → (sets : Sets) (u : ℕ) → asks g follow (e .item) (e .set) ≡ true → length sets ≡ m
+        → Has (follow (symbolsBehind g (e .item + 1)) (e .set)) u → Has (setOf (askEntries g follow kernel sets) (at g (e .item + 1) .symbol)) u
+    unfolding askEntries foldOver
+    entries-have {e} (here {xs = es}) sets u a l h =
+        fold-keeps (λ f sets. ask g follow (f .item) (f .set) sets) (λ sets. Has (setOf sets (at g (e .item + 1) .symbol)) u) es
+        (λ f k sets k′. ask-grows (f .item) (f .set) sets (at g (e .item + 1) .symbol) u k′) (ask g follow (e .item) (e .set) sets) (ask-has (e .item) (e .set) sets u a l h)
+    entries-have {e} (later {y = f} k) sets u a l h = entries-have k (ask g follow (f .item) (f .set) sets) u a (ask-length (f .item) (f .set) sets ∙ l) h
+
+    module _ (kernel : State) (small : (e : Entry) → Among e kernel → e .set < 2 ^ (n + 1)) where
+      pub kernel-answered : {e : Entry} → Among e kernel → (u : ℕ) → asks g follow (e .item) (e .set) ≡ true
+          → Has (follow (symbolsBehind g (e .item + 1)) (e .set)) u → Has (setOf (closureSets g follow kernel) (at g (e .item + 1) .symbol)) u
+      unfolding closureSets askLeftSides
+      kernel-answered {e} k u a h =
+          rounds-keep (closureSettled g follow) (λ i sets. ask g follow i (setOf sets (at g i .symbol)) sets) (λ sets. Has (setOf sets (at g (e .item + 1) .symbol)) u) (leftSides g)
+          (λ i j sets k′. ask-grows i (setOf sets (at g i .symbol)) sets (at g (e .item + 1) .symbol) u k′)
+          (m * (n + 1)) (askEntries g follow kernel (replicate m 0)) (entries-have k (replicate m 0) u a (length-replicate m 0) h)
+
+      pub left-side-answered : (i : ℕ) → Among i (leftSides g) → (u : ℕ) → asks g follow i (setOf (closureSets g follow kernel) (at g i .symbol)) ≡ true
+          → Has (follow (symbolsBehind g (i + 1)) (setOf (closureSets g follow kernel) (at g i .symbol))) u → Has (setOf (closureSets g follow kernel) (at g (i + 1) .symbol)) u
+      unfolding closureSettled answeredBy
+      left-side-answered i k u a h =
+          let sets : Sets = closureSets g follow kernel in
+          let each = each-true (λ i. answeredBy g follow sets i (setOf sets (at g i .symbol))) k (closure-settled kernel small) in
+          within-true _ _ .0 (implied-true (asks g follow i (setOf sets (at g i .symbol))) _ each a) u h
+
+-- ---- the two modes
+pub lr0-follows-narrow : (g : Grammar) → FollowsNarrow g (λ xs s. s)
+lr0-follows-narrow g i s b = b
+
+pub first-sets-narrow : (g : Grammar) → Narrow (terminalCount g) (firstSets g)
+unfolding firstSets addFirst
+first-sets-narrow g =
+    let n : ℕ = terminalCount g in
+    let m : ℕ = nonterminalCount g in
+    rounds-keep (firstSettled g n) (addFirst g n) (Narrow n) (leftSides g)
+    (λ i k sets s. joinAt-narrow n (at g i .symbol) (first0 n sets (symbolsBehind g i)) sets (first0-narrow n sets s (symbolsBehind g i) (terminals-below g i)) s)
+    (m * (n + 1)) (replicate m 0) (λ a. rw (at-replicate {A = ℕ} m 0 a) (none-below (n + 1)))
+
+pub first1-narrow : (g : Grammar) (i : ℕ) (s : TokenSet) → s < 2 ^ (terminalCount g + 1)
+    → first1 (terminalCount g) (firstSets g) (symbolsBehind g i) s < 2 ^ (terminalCount g + 1)
+unfolding first1
+first1-narrow g i s b = by-mark (has first n)
+  where
+    n : ℕ
+    n = terminalCount g
+
+    first : TokenSet
+    first = first0 n (firstSets g) (symbolsBehind g i)
+
+    small : first < 2 ^ (n + 1)
+    small = first0-narrow n (firstSets g) (first-sets-narrow g) (symbolsBehind g i) (terminals-below g i)
+
+    by-mark : (d : Bool) → pick d (join (without first n) s) first < 2 ^ (n + 1)
+    by-mark true = join-below (n + 1) _ _ (without-below (n + 1) first n small) b
+    by-mark false = small
+
+pub canonical-follows-narrow : (g : Grammar) → FollowsNarrow g (first1 (terminalCount g) (firstSets g))
+canonical-follows-narrow g = first1-narrow g
