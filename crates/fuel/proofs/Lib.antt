@@ -1,5 +1,6 @@
 pub mod Least
 pub mod Outcomes
+pub mod Recorded
 pub mod Run
 pub mod States
 pub mod Trace

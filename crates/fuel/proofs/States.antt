@@ -36,13 +36,15 @@ module _ (l : Limits) (g : Grammar) where
         length-append (e .kernels) (kernel ∷ []),
       ))))
 
-  transitions-few : (xs : List Symbol) (e : Expansion) → Few e → Holds Few (addTransitions l g xs e)
+  -- what every transition keeps
+  pub transitions-keep : (P : Expansion → Type 0) → ((x : Symbol) (e : Expansion) → P e → Holds P (addTransition l g x e))
+      → (xs : List Symbol) (e : Expansion) → P e → Holds P (addTransitions l g xs e)
   unfolding addTransitions
-  transitions-few [] e h = h
-  transitions-few (x ∷ xs) e h = by-first (addTransition l g x e) (transition-few x e h) (transitions-few xs)
+  transitions-keep P keeps [] e h = h
+  transitions-keep P keeps (x ∷ xs) e h = by-first (addTransition l g x e) (keeps x e h) (transitions-keep P keeps xs)
     where
-      by-first : (first : Outcome Expansion) → Holds Few first → ((e : Expansion) → Few e → Holds Few (addTransitions l g xs e))
-          → Holds Few (elim first [ done e′ ↦ addTransitions l g xs e′ | refused why ↦ refused why ])
+      by-first : (first : Outcome Expansion) → Holds P first → ((e : Expansion) → P e → Holds P (addTransitions l g xs e))
+          → Holds P (elim first [ done e′ ↦ addTransitions l g xs e′ | refused why ↦ refused why ])
       by-first (done e′) h more = more e′ h
       by-first (refused why) h more = tt
 
@@ -61,7 +63,7 @@ module _ (l : Limits) (g : Grammar) where
         let state : State = closure g follow (getD (c .kernels) (length (c .states)) []) in
         let e : Expansion = record { kernels = c .kernels; entries = state } in
         holds-pick (One c) (ltb (l .items) (itemCount (c .states) + length state)) _ _ (λ _. tt)
-        (λ _. one-expanded c (addTransitions l g (symbols g) e) (transitions-few (symbols g) e h))
+        (λ _. one-expanded c (addTransitions l g (symbols g) e) (transitions-keep Few transition-few (symbols g) e h))
 
     abbrev went-on : ℕ → Outcome Collection → Outcome (List State)
     went-on fuel o = elim o [ done c′ ↦ expandAll l g follow fuel c′ | refused why ↦ refused why ]

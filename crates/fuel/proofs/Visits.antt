@@ -17,10 +17,9 @@ use Rattle.rules.specs.First.{Sets}
 use Rattle.rules.specs.States.{State, Outcome, done, refused}
 use Rattle.rules.specs.Lanes.{Action, shift, reduce, actionsAt, LaneTable, Trace, visit, addSuccessor, enter, unShift, unClose, traceAction, traceActions, laneTable, allColumns, pairwiseDisjoint, rowsDisjoint, beachheads}
 use Rattle.rules.specs.Merge.{Merge, clonesOf, headOf, groupColumns, eachInTurn, walk, takeColumns, takeAll, mergeBegun, merged, split, resolveBy, resolve, resolveFrom}
-use Rattle.sets.specs.Size.{size}
 use Rattle.fuel.proofs.Outcomes.{Holds, holds-pick, holds-also, holds-in-turn}
 use Rattle.fuel.proofs.Trace.{Kept, both-keep}
-use Rattle.fuel.proofs.Walk.{walk-further}
+use Rattle.fuel.proofs.Walk.{Further, walk-further}
 
 -- ---- a lane table has a row for each state
 enter-length : (s c : ℕ) (tokens : TokenSet) (table : LaneTable) → length (enter s c tokens table) ≡ length table
@@ -94,8 +93,8 @@ module _ (l : Limits) (g : Grammar) where
   module _ (table : LaneTable) (rows : length table ≤ l .states) where
     walk-few : (s : ℕ) (m : Merge) → Few (m .states) → Holds (λ m. Few (m .states)) (walk l g table (l .states + 1) s m)
     walk-few s m h =
-        holds-also (λ m′. Few (m′ .states) × (size (l .states) (m .walked) ≤ size (l .states) (m′ .walked))) (λ m′. Few (m′ .states)) (λ m′ p. p .0)
-        (walk l g table (l .states + 1) s m) (walk-further l g table rows (l .states + 1) s m h)
+        holds-also (Further l g table rows 0) (λ m′. Few (m′ .states)) (λ m′ p. p .0) (walk l g table (l .states + 1) s m)
+        (walk-further l g table rows 0 (l .states + 1) s m (h, omega arith))
 
     split-few : (states : List State) (s : ℕ) (actions : List Action) → Few states → Holds Few (split l g states s actions table)
     unfolding split

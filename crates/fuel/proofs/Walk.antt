@@ -23,12 +23,45 @@ use Rattle.sets.specs.Size.{size}
 use Rattle.sets.proofs.Laws.{has-false, has-join, has-single, within-join, size-le, size-within, size-strict}
 use Rattle.fuel.proofs.Outcomes.{Holds, holds-pick, holds-also, holds-in-turn, same-in-turn}
 
+module _ (l : Limits) (g : Grammar) (table : LaneTable) where
+  abbrev stepped : ℕ → Outcome Joining → Outcome Merge
+  stepped fuel o = elim o [ done j ↦ walk l g table fuel (j .with) (j .merge) | refused why ↦ refused why ]
+
+  abbrev walked-by : ℕ → ℕ → Merge → Bool → Outcome Merge
+  walked-by fuel s m b = elim b [
+      true ↦ done m
+    | false ↦ eachInTurn (λ successor m. stepped fuel (joinSuccessor l g table s successor m)) (successorsOf table m s) (walkOn s m)
+    ]
+
+  -- what joining a successor and marking a state keep, a walk keeps
+  module _ (P : Merge → Type 0) (marking : (s : ℕ) (m : Merge) → P m → P (walkOn s m))
+    (joining : (m₀ : Merge) (s successor : ℕ) → Among successor (successorsOf table m₀ s) → (m : Merge) → P m → Holds (λ j. P (j .merge)) (joinSuccessor l g table s successor m)) where
+
+    pub walk-keeps : (fuel s : ℕ) (m : Merge) → P m → Holds P (walk l g table fuel s m)
+    unfolding walk
+    walk-keeps zero s m p = p
+    walk-keeps (suc fuel) s m p = by-test (has (m .walked) s) (walk-keeps fuel)
+      where
+        Later : Type 0
+        Later = (s : ℕ) (m : Merge) → P m → Holds P (walk l g table fuel s m)
+
+        by-joining : (o : Outcome Joining) → Holds (λ j. P (j .merge)) o → Later → Holds P (stepped fuel o)
+        by-joining (done j) p more = more (j .with) (j .merge) p
+        by-joining (refused why) p more = tt
+
+        by-test : (b : Bool) → Later → Holds P (walked-by fuel s m b)
+        by-test true more = p
+        by-test false more =
+            holds-in-turn P (λ successor m. stepped fuel (joinSuccessor l g table s successor m)) (successorsOf table m s)
+            (λ successor among m′ p′. by-joining (joinSuccessor l g table s successor m′) (joining m s successor among m′ p′) more)
+            (walkOn s m) (marking s m p)
+
 module _ (l : Limits) (g : Grammar) (table : LaneTable) (rows : length table ≤ l .states) where
-  abbrev Fits : Merge → Type 0
+  abbrev pub Fits : Merge → Type 0
   Fits m = length (m .states) ≤ l .states
 
   -- how many of the states that there can be are walked
-  abbrev walks : Merge → ℕ
+  abbrev pub walks : Merge → ℕ
   walks m = size (l .states) (m .walked)
 
   -- ---- joining a successor walks nothing, and stays within the limit
@@ -86,7 +119,7 @@ module _ (l : Limits) (g : Grammar) (table : LaneTable) (rows : length table ≤
       (λ _. placed-new m (joinNew l g table s successor m) (length (m .states)) (new-joins s successor m))
 
   -- ---- the walk only adds to the states walked
-  abbrev Further : ℕ → Merge → Type 0
+  abbrev pub Further : ℕ → Merge → Type 0
   Further n m = Fits m × (n ≤ walks m)
 
   successor-below : (m : Merge) (s successor : ℕ) → Among successor (successorsOf table m s) → successor < l .states
@@ -95,40 +128,18 @@ module _ (l : Limits) (g : Grammar) (table : LaneTable) (rows : length table ≤
       let (i, _) = keep-among _ (upTo (length table)) among in
       omega (arith, upTo-among successor (length table) .0 i)
 
-  abbrev stepped : ℕ → Outcome Joining → Outcome Merge
-  stepped fuel o = elim o [ done j ↦ walk l g table fuel (j .with) (j .merge) | refused why ↦ refused why ]
-
-  abbrev walked-by : ℕ → ℕ → Merge → Bool → Outcome Merge
-  walked-by fuel s m b = elim b [
-    | true ↦ done m
-    | false ↦ eachInTurn (λ successor m. stepped fuel (joinSuccessor l g table s successor m)) (successorsOf table m s) (walkOn s m)
-  ]
-
-  walk-on-further : (s : ℕ) (m : Merge) → Fits m → Further (walks m) (walkOn s m)
+  walk-on-further : (n s : ℕ) (m : Merge) → Further n m → Further n (walkOn s m)
   unfolding walkOn
-  walk-on-further s m h = (h, size-within (m .walked) (join (m .walked) (single s)) (within-join (m .walked) (single s)) (l .states))
+  walk-on-further n s m (f, k) = (f, omega (arith, size-within (m .walked) (join (m .walked) (single s)) (within-join (m .walked) (single s)) (l .states)))
 
-  pub walk-further : (fuel s : ℕ) (m : Merge) → Fits m → Holds (Further (walks m)) (walk l g table fuel s m)
-  unfolding walk
-  walk-further zero s m h = (h, omega arith)
-  walk-further (suc fuel) s m h = by-test (has (m .walked) s) (walk-further fuel)
-    where
-      Later : Type 0
-      Later = (s : ℕ) (m : Merge) → Fits m → Holds (Further (walks m)) (walk l g table fuel s m)
+  joining-further : (n : ℕ) (m₀ : Merge) (s successor : ℕ) → Among successor (successorsOf table m₀ s) → (m : Merge) → Further n m
+      → Holds (λ j. Further n (j .merge)) (joinSuccessor l g table s successor m)
+  joining-further n m₀ s successor among m (f, k) =
+      holds-also (Placed m) (λ j. Further n (j .merge)) (λ j (w, p). (p .fits, rw (p .same) k)) (joinSuccessor l g table s successor m)
+      (successor-joins s successor m f (successor-below m₀ s successor among))
 
-      by-joining : (m′ : Merge) (o : Outcome Joining) → Holds (Placed m′) o → Later → walks m ≤ walks m′ → Holds (Further (walks m)) (stepped fuel o)
-      by-joining m′ (done j) (b, p) more k =
-          let k′ : walks m ≤ walks (j .merge) = rw (p .same) k in
-          holds-also (Further (walks (j .merge))) (Further (walks m)) (λ m″ (f, q). (f, omega arith)) (walk l g table fuel (j .with) (j .merge))
-          (more (j .with) (j .merge) (p .fits))
-      by-joining m′ (refused why) p more k = tt
-
-      by-test : (b : Bool) → Later → Holds (Further (walks m)) (walked-by fuel s m b)
-      by-test true more = (h, omega arith)
-      by-test false more =
-          holds-in-turn (Further (walks m)) (λ successor m. stepped fuel (joinSuccessor l g table s successor m)) (successorsOf table m s)
-          (λ successor among m′ (f, k). by-joining m′ (joinSuccessor l g table s successor m′) (successor-joins s successor m′ f (successor-below m s successor among)) more k)
-          (walkOn s m) (walk-on-further s m h)
+  pub walk-further : (n fuel s : ℕ) (m : Merge) → Further n m → Holds (Further n) (walk l g table fuel s m)
+  walk-further n = walk-keeps l g table (Further n) (walk-on-further n) (joining-further n)
 
   -- ---- a state that was not walked counts
   walk-on-counts : (s : ℕ) (m : Merge) → s < l .states → has (m .walked) s ≡ false → walks m < walks (walkOn s m)
@@ -143,7 +154,7 @@ module _ (l : Limits) (g : Grammar) (table : LaneTable) (rows : length table ≤
   unfolding walk
   walk-fuel zero larger s m f b h k = by-test (has (m .walked) s) refl
     where
-      by-test : (t : Bool) → has (m .walked) s ≡ t → walked-by larger s m t ≡ walked-by zero s m t
+      by-test : (t : Bool) → has (m .walked) s ≡ t → walked-by l g table larger s m t ≡ walked-by l g table zero s m t
       by-test true e = refl
       by-test false e = absurd (omega (arith, walk-on-counts s m b e, size-le (l .states) (walkOn s m .walked)))
   walk-fuel (suc fuel) zero s m f b h k = absurd (omega arith)
@@ -156,22 +167,22 @@ module _ (l : Limits) (g : Grammar) (table : LaneTable) (rows : length table ≤
       Left : Merge → Type 0
       Left m′ = Fits m′ × (l .states ≤ walks m′ + fuel)
 
-      agree : (m′ : Merge) (o : Outcome Joining) → Holds (Placed m′) o → Later → l .states ≤ walks m′ + fuel → stepped (suc larger) o ≡ stepped (suc fuel) o
+      agree : (m′ : Merge) (o : Outcome Joining) → Holds (Placed m′) o → Later → l .states ≤ walks m′ + fuel → stepped l g table (suc larger) o ≡ stepped l g table (suc fuel) o
       agree m′ (done j) (w, p) more r = more (j .with) (j .merge) (omega arith) w (p .fits) (rw (p .same) r)
       agree m′ (refused why) p more r = refl
 
-      left : (m′ : Merge) (o : Outcome Joining) → Holds (Placed m′) o → l .states ≤ walks m′ + fuel → Holds Left (stepped (suc fuel) o)
+      left : (m′ : Merge) (o : Outcome Joining) → Holds (Placed m′) o → l .states ≤ walks m′ + fuel → Holds Left (stepped l g table (suc fuel) o)
       left m′ (done j) (w, p) r =
           let r′ : l .states ≤ walks (j .merge) + fuel = rw (p .same) r in
           holds-also (Further (walks (j .merge))) Left (λ m″ (f, q). (f, omega arith)) (walk l g table (suc fuel) (j .with) (j .merge))
-          (walk-further (suc fuel) (j .with) (j .merge) (p .fits))
+          (walk-further (walks (j .merge)) (suc fuel) (j .with) (j .merge) (p .fits, omega arith))
       left m′ (refused why) p r = tt
 
-      by-test : (t : Bool) → has (m .walked) s ≡ t → Later → walked-by (suc larger) s m t ≡ walked-by (suc fuel) s m t
+      by-test : (t : Bool) → has (m .walked) s ≡ t → Later → walked-by l g table (suc larger) s m t ≡ walked-by l g table (suc fuel) s m t
       by-test true e more = refl
       by-test false e more =
-          same-in-turn Left (λ successor m. stepped (suc larger) (joinSuccessor l g table s successor m))
-          (λ successor m. stepped (suc fuel) (joinSuccessor l g table s successor m)) (successorsOf table m s)
+          same-in-turn Left (λ successor m. stepped l g table (suc larger) (joinSuccessor l g table s successor m))
+          (λ successor m. stepped l g table (suc fuel) (joinSuccessor l g table s successor m)) (successorsOf table m s)
           (λ successor among m′ (f′, r). agree m′ (joinSuccessor l g table s successor m′) (successor-joins s successor m′ f′ (successor-below m s successor among)) more r)
           (λ successor among m′ (f′, r). left m′ (joinSuccessor l g table s successor m′) (successor-joins s successor m′ f′ (successor-below m s successor among)) r)
-          (walkOn s m) (walk-on-further s m h .0, omega (arith, walk-on-counts s m b e))
+          (walkOn s m) (walk-on-further 0 s m (h, omega arith) .0, omega (arith, walk-on-counts s m b e))
