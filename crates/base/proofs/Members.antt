@@ -1,7 +1,9 @@
--- What is among two lists one behind the other, and among what a function makes of a list.
+-- What is among two lists one behind the other, among a list after a store, and among what a function makes of a list.
+use Prim.Native.Nat.{ℕ, zero, suc}
 use mathlib.Core.Path.{_≡_}
 use mathlib.Core.Logic.{_⊎_, inl, inr, ⊎-elim}
 use mathlib.Core.List.{List, [], _∷_, _++_, map}
+use lib.ListN.{set}
 use Rattle.base.specs.Among.{Among, here, later}
 use Rattle.base.proofs.Lists.{among-none, among-cons}
 
@@ -17,6 +19,11 @@ module _ {A : Type 0} where
   pub append-right : {x : A} (xs : List A) {ys : List A} → Among x ys → Among x (xs ++ ys)
   append-right [] m = m
   append-right (y ∷ xs) m = later (append-right xs m)
+
+  pub set-among : {y : A} (xs : List A) (i : ℕ) (x : A) → Among y (set xs i x) → (y ≡ x) ⊎ Among y xs
+  set-among [] i x m = inr m
+  set-among (z ∷ xs) zero x m = ⊎-elim inl (λ k. inr (later k)) (among-cons m)
+  set-among (z ∷ xs) (suc i) x m = ⊎-elim (λ e. inr (rw e here)) (λ k. ⊎-elim inl (λ j. inr (later j)) (set-among xs i x k)) (among-cons m)
 
 pub map-among : {A B : Type 0} (f : A → B) {y : B} (xs : List A) → Among y (map f xs) → (x : A) × Among x xs × (y ≡ f x)
 map-among f [] m = absurd (among-none m)

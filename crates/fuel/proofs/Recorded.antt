@@ -1,18 +1,17 @@
 -- The items of every state that lane mode meets are records of the grammar, as the fuel of its traces asks.
 use Prim.Native.Nat.{ℕ, zero, suc, _+_, _<_}
-use mathlib.Core.Path.{_≡_, refl, ap}
-use mathlib.Core.Logic.{_⊎_, ⊎-elim}
+use mathlib.Core.Path.{_≡_, refl}
+use mathlib.Core.Logic.{⊎-elim}
 use mathlib.Core.Bool.{Bool, true, false, not}
 use mathlib.Core.List.{List, [], _∷_, _++_, map}
-use native.Mathlib.Omega.{arith}
 use lib.ListN.{length, getD, set}
 use lib.Dec.{eqb, leb, ltb}
 use borrow.Author.Tests.{not-true}
 use Rattle.base.specs.Pick.{pick}
-use Rattle.base.specs.Lists.{keep, isEmpty, placeOf, foldOver}
+use Rattle.base.specs.Lists.{isEmpty, placeOf}
 use Rattle.base.specs.Among.{Among, here, later}
-use Rattle.base.proofs.Lists.{among-none, among-cons, among-at, keep-among, upTo-among, fold-keeps, after-set}
-use Rattle.base.proofs.Members.{among-append, map-among}
+use Rattle.base.proofs.Lists.{among-none, among-cons, keep-among, upTo-among, fold-keeps}
+use Rattle.base.proofs.Members.{among-append, map-among, set-among}
 use Rattle.base.proofs.Tests.{both-true}
 use Rattle.rules.specs.Limits.{Limits}
 use Rattle.rules.specs.Records.{Grammar}
@@ -20,8 +19,11 @@ use Rattle.rules.specs.Tokens.{TokenSet}
 use Rattle.rules.specs.Grammar.{Symbol, atStart, atEnd, isBefore, leftSides}
 use Rattle.rules.specs.First.{Sets}
 use Rattle.rules.specs.States.{Entry, State, Outcome, done, refused, Follow, entryOf, closureSets, noSet, closure, kernelOver, sameKernel, symbols, lead, Expansion, addTransition, addTransitions, Collection, itemCount, expanded, expandNext, expandAll, statesFrom}
-use Rattle.fuel.proofs.Outcomes.{Holds, holds-pick}
+use Rattle.rules.specs.Lanes.{Action, actionsAt, LaneTable, laneTable, allColumns, pairwiseDisjoint, rowsDisjoint, beachheads}
+use Rattle.rules.specs.Merge.{Merge, headOf, groupColumns, canJoin, joinGroups, clonesOf, cloneState, patchLinks, walkOn, joined, joinNew, firstJoining, withNew, joinSuccessor, eachInTurn, walk, takeColumn, takeColumns, takeAll, mergeBegun, merged, split, resolveBy, resolve}
+use Rattle.fuel.proofs.Outcomes.{Holds, holds-pick, holds-in-turn}
 use Rattle.fuel.proofs.States.{transitions-keep}
+use Rattle.fuel.proofs.Walk.{walk-keeps}
 use Rattle.knuth.proofs.Closures.{not-at-end-within}
 
 module _ (g : Grammar) where
@@ -54,8 +56,8 @@ module _ (g : Grammar) where
   closure-recorded follow kernel h e m =
       ⊎-elim (h e)
       (λ k. let (j, _) = keep-among (λ (e : Entry). not (noSet (e .set))) _ k in
-        let (i, p, q) = map-among (entryOf g (closureSets g follow kernel)) (leftSides g) j in
-        rw q (left-side-within i p))
+      let (i, p, q) = map-among (entryOf g (closureSets g follow kernel)) (leftSides g) j in
+      rw q (left-side-within i p))
       (among-append kernel m)
 
   lead-recorded : (x : Symbol) (s : ℕ) (state : State) → Recorded state → Recorded (lead g x s state)
@@ -115,9 +117,9 @@ module _ (g : Grammar) where
 
           by-test : (b : Bool) → ((c : Collection) → Known c → Holds AllRecorded (expandAll l g follow fuel c))
               → Holds AllRecorded (elim b [
-                  true ↦ elim (expandNext l g follow c) [ done c′ ↦ expandAll l g follow fuel c′ | refused why ↦ refused why ]
+                | true ↦ elim (expandNext l g follow c) [ done c′ ↦ expandAll l g follow fuel c′ | refused why ↦ refused why ]
                 | false ↦ done (c .states)
-                ])
+              ])
           by-test true more = by-next (expandNext l g follow c) (next-recorded c p) more
           by-test false more = p .1
 
@@ -128,3 +130,102 @@ module _ (g : Grammar) where
           begun : AllRecorded ((record { item = 0; next = 0; set = s } ∷ []) ∷ [])
           begun state m e k =
               ⊎-elim (λ q. ⊎-elim (λ r. rw r some) (λ j. absurd (among-none j)) (among-cons (rw q at k))) (λ j. absurd (among-none j)) (among-cons m)
+
+  -- ---- lane mode: clones, links and sets leave the items as they are
+  set-recorded : (states : List State) (s : ℕ) (state : State) → AllRecorded states → Recorded state → AllRecorded (set states s state)
+  set-recorded states s state h k x m = ⊎-elim (λ q. rw q k) (h x) (set-among states s state m)
+
+  abbrev Kept : Merge → Type 0
+  Kept m = AllRecorded (m .states)
+
+  links-recorded : (s successor clone : ℕ) (m : Merge) → Kept m → Kept (patchLinks g s successor clone m)
+  unfolding patchLinks
+  links-recorded s successor clone m h = set-recorded (m .states) s _ h (same-items-recorded _ (λ e. refl) (getD (m .states) s []) (at-recorded (m .states) s h))
+
+  joined-recorded : (s successor t : ℕ) (m : Merge) → Kept m → Kept (joined g s successor t m)
+  unfolding joined joinGroups
+  joined-recorded s successor t m h = by-test (eqb t successor)
+    where
+      by-test : (b : Bool) → Kept (pick b (joinGroups s t m) (patchLinks g s successor t (joinGroups s t m)))
+      by-test true = h
+      by-test false = links-recorded s successor t (joinGroups s t m) h
+
+  clone-recorded : (s : ℕ) (m : Merge) → Kept m → Kept (cloneState s m)
+  unfolding cloneState
+  clone-recorded s m h = added-recorded (m .states) (getD (m .states) s []) h (at-recorded (m .states) s h)
+
+  take-recorded : (actions : List Action) (columns : List TokenSet) (state : State) → Recorded state → Recorded (takeColumns actions columns state)
+  unfolding takeColumns takeColumn
+  take-recorded actions columns state h = same-items-recorded (takeColumn actions columns) (λ e. refl) state h
+
+  module _ (l : Limits) where
+    new-recorded : (table : LaneTable) (s successor : ℕ) (m : Merge) → Kept m → Holds Kept (joinNew l g table s successor m)
+    unfolding joinNew
+    new-recorded table s successor m h =
+        let clone : ℕ = length (m .states) in
+        let cloned : Merge = cloneState successor m in
+        holds-pick Kept (leb (l .states) clone) _ _ (λ _. tt)
+        (λ _. holds-pick Kept (ltb (l .items) (itemCount (cloned .states))) _ _ (λ _. tt)
+        (λ _. holds-pick Kept (canJoin table cloned s clone) _ _ (λ _. joined-recorded s successor clone cloned (clone-recorded successor m h)) (λ _. tt)))
+
+    with-new-recorded : (t : ℕ) (o : Outcome Merge) → Holds Kept o → Holds (λ j. Kept (j .merge)) (withNew t o)
+    unfolding withNew
+    with-new-recorded t (done m) h = h
+    with-new-recorded t (refused why) h = tt
+
+    successor-recorded : (table : LaneTable) (s successor : ℕ) (m : Merge) → Kept m → Holds (λ j. Kept (j .merge)) (joinSuccessor l g table s successor m)
+    unfolding joinSuccessor
+    successor-recorded table s successor m h =
+        let choices : List ℕ = successor ∷ clonesOf m successor in
+        let k : ℕ = firstJoining table m s choices in
+        holds-pick (λ j. Kept (j .merge)) (ltb k (length choices)) _ _ (λ _. joined-recorded s successor (getD choices k 0) m h)
+        (λ _. with-new-recorded (length (m .states)) (joinNew l g table s successor m) (new-recorded table s successor m h))
+
+    walk-recorded : (table : LaneTable) (fuel s : ℕ) (m : Merge) → Kept m → Holds Kept (walk l g table fuel s m)
+    unfolding walkOn
+    walk-recorded table = walk-keeps l g table Kept (λ s m h. h) (λ m₀ s successor among m h. successor-recorded table s successor m h)
+
+    -- ---- a visit
+    take-all-recorded : (table : LaneTable) (actions : List Action) (s : ℕ) (m : Merge) → Kept m → AllRecorded (takeAll table actions s m)
+    unfolding takeAll
+    take-all-recorded table actions s m h =
+        fold-keeps (λ t states. set states t (takeColumns actions (groupColumns table m (headOf m t)) (getD states t []))) AllRecorded (s ∷ clonesOf m s)
+        (λ t among states k. set-recorded states t _ k (take-recorded actions (groupColumns table m (headOf m t)) (getD states t []) (at-recorded states t k))) (m .states) h
+
+    merged-recorded : (table : LaneTable) (actions : List Action) (s : ℕ) (o : Outcome Merge) → Holds Kept o → Holds AllRecorded (merged table actions s o)
+    unfolding merged
+    merged-recorded table actions s (done m) h = take-all-recorded table actions s m h
+    merged-recorded table actions s (refused why) h = tt
+
+    begun-recorded : (states : List State) → AllRecorded states → Kept (mergeBegun states)
+    unfolding mergeBegun
+    begun-recorded states h = h
+
+    split-recorded : (states : List State) (s : ℕ) (actions : List Action) (table : LaneTable) → AllRecorded states → Holds AllRecorded (split l g states s actions table)
+    unfolding split
+    split-recorded states s actions table h =
+        holds-pick AllRecorded (rowsDisjoint table) _ _
+        (λ _. merged-recorded table actions s (eachInTurn (walk l g table (l .states + 1)) (beachheads table) (mergeBegun states))
+        (holds-in-turn Kept (walk l g table (l .states + 1)) (beachheads table) (λ s among m k. walk-recorded table (l .states + 1) s m k) (mergeBegun states) (begun-recorded states h)))
+        (λ _. tt)
+
+    resolve-by-recorded : (states : List State) (s : ℕ) (actions : List Action) (table : LaneTable) → AllRecorded states → Holds AllRecorded (resolveBy l g states s actions table)
+    unfolding resolveBy
+    resolve-by-recorded states s actions table h =
+        holds-pick AllRecorded (pairwiseDisjoint (allColumns table)) _ _
+        (λ _. set-recorded states s _ h (take-recorded actions (allColumns table) (getD states s []) (at-recorded states s h)))
+        (λ _. split-recorded states s actions table h)
+
+    pub resolve-recorded : (sets : Sets) (s : ℕ) (states : List State) → AllRecorded states → Holds AllRecorded (resolve l g sets s states)
+    unfolding resolve
+    resolve-recorded sets s states h =
+        let actions : List Action = actionsAt g (getD states s []) in
+        holds-pick AllRecorded (isEmpty actions) _ _ (λ _. h)
+        (λ _. holds-pick AllRecorded (ltb (l .actions) (length actions)) _ _ (λ _. tt)
+        (λ _. resolve-by-recorded states s actions (laneTable g sets states s actions) h))
+
+  -- as the fuel of a trace asks it
+  pub traces-recorded : (states : List State) → AllRecorded states → (s i : ℕ) → Among i (map (λ (e : Entry). e .item) (getD states s [])) → i < length g
+  traces-recorded states h s i m =
+      let (e, k, q) = map-among (λ (e : Entry). e .item) (getD states s []) m in
+      rw q (at-recorded states s h e k)

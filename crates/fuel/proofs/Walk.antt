@@ -29,14 +29,13 @@ module _ (l : Limits) (g : Grammar) (table : LaneTable) where
 
   abbrev walked-by : ℕ → ℕ → Merge → Bool → Outcome Merge
   walked-by fuel s m b = elim b [
-      true ↦ done m
+    | true ↦ done m
     | false ↦ eachInTurn (λ successor m. stepped fuel (joinSuccessor l g table s successor m)) (successorsOf table m s) (walkOn s m)
-    ]
+  ]
 
   -- what joining a successor and marking a state keep, a walk keeps
   module _ (P : Merge → Type 0) (marking : (s : ℕ) (m : Merge) → P m → P (walkOn s m))
-    (joining : (m₀ : Merge) (s successor : ℕ) → Among successor (successorsOf table m₀ s) → (m : Merge) → P m → Holds (λ j. P (j .merge)) (joinSuccessor l g table s successor m)) where
-
+      (joining : (m₀ : Merge) (s successor : ℕ) → Among successor (successorsOf table m₀ s) → (m : Merge) → P m → Holds (λ j. P (j .merge)) (joinSuccessor l g table s successor m)) where
     pub walk-keeps : (fuel s : ℕ) (m : Merge) → P m → Holds P (walk l g table fuel s m)
     unfolding walk
     walk-keeps zero s m p = p
