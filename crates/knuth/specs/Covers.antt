@@ -1,4 +1,5 @@
--- What a state of `rules` has of Knuth's items, and a test over states: they have the start's productions, are closed under closing and moving, and have no conflict.
+-- What a state of `rules` has of Knuth's items, and a test over states: they have the start's productions, are closed under closing and
+-- moving, and have no conflict.
 --
 -- 0: S→A, 1: A→a, Eof being bit 1, passes with the entries (0, 2) (2, 2); (1, 2); (3, 2) of item and set.
 use Prim.Native.Nat.{ℕ, _+_}
