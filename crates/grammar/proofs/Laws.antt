@@ -1,0 +1,65 @@
+-- The laws of the coded grammar's definitions: what the loops of this crate go by.
+use Prim.Native.Nat.{ℕ, zero, suc, _+_, _*_, _/_, _≤_, _<_}
+use mathlib.Core.Path.{_≡_, refl, sym, ap, _∙_}
+use mathlib.Core.List.{List}
+use native.Mathlib.Omega.{arith}
+use native.Mathlib.Nat.{add-assoc}
+use lib.ListN.{length, getD, drop, List·getD-eq-default}
+use lib.Seq.{getD-drop}
+use native.Mathlib.Decide.{decLe}
+use mathlib.Core.Bool.{Bool, true, false, false≢true}
+use Rattle.rules.specs.Records.{Record, Grammar, recordAt, recordsOf, records, past, at}
+use Rattle.rules.specs.Grammar.{atEnd, leftOf, leftSideOf}
+
+-- ---- records
+record-dropped : (n : ℕ) (bytes : List ℕ) (i : ℕ) → recordAt (drop n bytes) i ≡ recordAt bytes (n + i)
+unfolding recordAt
+record-dropped n bytes i = simp (getD-drop, add-assoc)
+
+length-recordsOf : (k : ℕ) (bytes : List ℕ) → length (recordsOf k bytes) ≡ k
+unfolding recordsOf
+length-recordsOf zero bytes = refl
+length-recordsOf (suc k) bytes = ap suc (length-recordsOf k (drop 8 bytes))
+
+recordsOf-at : (k i : ℕ) (bytes : List ℕ) → i < k → getD (recordsOf k bytes) i past ≡ recordAt bytes (8 * i)
+unfolding recordsOf
+recordsOf-at zero i bytes h = absurd (omega arith)
+recordsOf-at (suc k) zero bytes h = refl
+recordsOf-at (suc k) (suc i) bytes h =
+    let e : 8 + 8 * i ≡ 8 * suc i = omega arith in
+    recordsOf-at k i (drop 8 bytes) (omega arith) ∙ record-dropped 8 bytes (8 * i) ∙ ap (recordAt bytes) e
+
+pub length-records : (bytes : List ℕ) → length (records bytes) ≡ length bytes / 8
+unfolding records
+length-records bytes = length-recordsOf (length bytes / 8) bytes
+
+pub record-at : (bytes : List ℕ) (i : ℕ) → 8 * i + 8 ≤ length bytes → at (records bytes) i ≡ recordAt bytes (8 * i)
+unfolding records at
+record-at bytes i h = recordsOf-at (length bytes / 8) i bytes (omega arith)
+
+pub record-past : (g : Grammar) (i : ℕ) → length g ≤ i → at g i ≡ past
+unfolding at
+record-past g i h = List·getD-eq-default g past h
+
+-- ---- items
+pub past-end : (g : Grammar) (n i : ℕ) → n ≡ length g → n ≤ i + 1 → true ≡ atEnd g i
+unfolding atEnd
+past-end g n i e h = let l : length g ≤ i + 1 = omega arith in rw (record-past g (i + 1) l)
+
+pub behind-dot : (bytes : List ℕ) (i : ℕ) → atEnd (records bytes) i ≡ false → 8 * (i + 1) + 8 ≤ length bytes
+behind-dot bytes i f =
+    elim (decLe (8 * (i + 1) + 8) (length bytes)) [
+      yes h ↦ h
+    | no h ↦ let l = length-records bytes in
+        let q : true ≡ atEnd (records bytes) i = past-end (records bytes) (length (records bytes)) i refl (omega arith) in
+        absurd (false≢true (sym f ∙ sym q))
+    ]
+
+module _ (g : Grammar) (i p k : ℕ) where
+  pub left-found : (a : ℕ) → p ≡ at g i .production → k ≡ leftSideOf g p → a ≡ at g k .symbol → a ≡ leftOf g i
+  unfolding leftOf
+  left-found a e f h = h ∙ rw (f, e)
+
+  pub left-none : (n : ℕ) → p ≡ at g i .production → k ≡ leftSideOf g p → n ≡ length g → n ≤ k → 0 ≡ leftOf g i
+  unfolding past
+  left-none n e f l h = let r : at g k ≡ past = record-past g k (omega arith) in left-found 0 e f (sym (ap (λ (x : Record). x .symbol) r))

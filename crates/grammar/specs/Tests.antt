@@ -1,0 +1,35 @@
+-- What the helpers of this crate answer, in the words of `rules`.
+use Prim.Native.Nat.{ℕ, _+_}
+use mathlib.Core.Bool.{Bool, true, false, not, _&&_, _||_}
+use mathlib.Core.List.{map}
+use lib.Dec.{eqb}
+use Rattle.base.specs.Pick.{pick}
+use Rattle.base.specs.Lists.{greatest}
+use Rattle.rules.specs.Records.{Record, Grammar, at, isLeftSide, isTerminal}
+use Rattle.rules.specs.Tokens.{TokenSet, has}
+use Rattle.rules.specs.Grammar.{atStart, sideDerives, collect}
+
+-- one more than the symbol of a record of the kind, and 0 of the other kind: terminals if the test says so, else nonterminals
+unfoldable pub countNamed : Bool → Record → ℕ
+unfolding isTerminal
+countNamed true r = pick (isTerminal r) (r .symbol + 1) 0
+countNamed false r = pick (isTerminal r) 0 (r .symbol + 1)
+
+unfoldable pub highestNamed : Bool → Grammar → ℕ
+unfolding greatest countNamed
+highestNamed terminals g = greatest (map (countNamed terminals) g)
+
+-- record i is the left side of production p
+unfoldable pub beginsProduction : Grammar → ℕ → ℕ → Bool
+unfolding at isLeftSide
+beginsProduction g p i = isLeftSide (at g i) && eqb (at g i .production) p
+
+-- the left side of a production, if record i is one, is not collected though its right side derives a string
+unfoldable pub uncollected : Grammar → TokenSet → ℕ → Bool
+unfolding at atStart sideDerives has
+uncollected g found i = pick (atStart g i) (not (not (sideDerives g found i) || has found (at g i .symbol))) false
+
+-- one turn of a round over the productions
+unfoldable pub collectAt : Grammar → ℕ → TokenSet → TokenSet
+unfolding atStart collect
+collectAt g i found = pick (atStart g i) (collect g i found) found

@@ -1,0 +1,4 @@
+// The coded grammar: what stands in its records, and which bytes are one.
+pub mod counts;
+pub mod items;
+pub mod records;
