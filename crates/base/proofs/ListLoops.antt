@@ -110,15 +110,19 @@ module _ {A : Type 0} (f : A → ℕ) (d : A) (xs : List A) where
   greatest-start = omega arith
 
   module _ (i a t : ℕ) where
-    pub greatest-turn : (x b : ℕ) → i < length xs → max a (greatest (map f (drop i xs))) ≡ t → x ≡ f (getD xs i d) → b ≡ max a x → max b (greatest (map f (drop (i + 1) xs))) ≡ t
+    pub greatest-turn : (n x b : ℕ) → n ≡ length xs → i < n → max a (greatest (map f (drop i xs))) ≡ t → x ≡ f (getD xs i d) → b ≡ max a x → max b (greatest (map f (drop (i + 1) xs))) ≡ t
     unfolding greatest
-    greatest-turn x b h e p q =
-        let r : max a (max (f (getD xs i d)) (greatest (map f (drop (suc i) xs)))) ≡ t = rw (drop-cons xs i d h) at e in
+    greatest-turn n x b l h e p q =
+        let k : i < length xs = omega arith in
+        let r : max a (max (f (getD xs i d)) (greatest (map f (drop (suc i) xs)))) ≡ t = rw (drop-cons xs i d k) at e in
         rw add-one (omega arith)
 
-    pub greatest-end : length xs ≤ i → max a (greatest (map f (drop i xs))) ≡ t → a ≡ t
+    pub greatest-end : (n : ℕ) → n ≡ length xs → n ≤ i → max a (greatest (map f (drop i xs))) ≡ t → a ≡ t
     unfolding greatest
-    greatest-end h e = let r : max a 0 ≡ t = rw (drop-of-length-le xs h) at e in omega arith
+    greatest-end n l h e =
+        let k : length xs ≤ i = omega arith in
+        let r : max a 0 ≡ t = rw (drop-of-length-le xs k) at e in
+        omega arith
 
 -- ---- step after step until the test holds, i of n steps made
 module _ {ℓ} {A : Type ℓ} (test : A → Bool) (step : A → A) where

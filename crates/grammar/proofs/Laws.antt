@@ -1,15 +1,18 @@
 -- The laws of the coded grammar's definitions: what the loops of this crate go by.
-use Prim.Native.Nat.{ℕ, zero, suc, _+_, _*_, _/_, _≤_, _<_}
+use Prim.Native.Nat.{ℕ, zero, suc, _+_, _*_, _/_, _≤_, _<_, max}
 use mathlib.Core.Path.{_≡_, refl, sym, ap, _∙_}
-use mathlib.Core.List.{List}
+use mathlib.Core.List.{List, map}
 use native.Mathlib.Omega.{arith}
 use native.Mathlib.Nat.{add-assoc}
 use lib.ListN.{length, getD, drop, List·getD-eq-default}
 use lib.Seq.{getD-drop}
 use native.Mathlib.Decide.{decLe}
 use mathlib.Core.Bool.{Bool, true, false, false≢true}
+use Rattle.base.specs.Lists.{greatest}
+use Rattle.base.proofs.ListLoops.{kept, kept-start, greatest-turn}
 use Rattle.rules.specs.Records.{Record, Grammar, recordAt, recordsOf, records, past, at}
-use Rattle.rules.specs.Grammar.{atEnd, leftOf, leftSideOf}
+use Rattle.rules.specs.Grammar.{atEnd, atStart, leftOf, leftSideOf, leftSides, productionCount, terminalCount, nonterminalCount}
+use Rattle.grammar.specs.Tests.{countNamed, highestNamed}
 
 -- ---- records
 record-dropped : (n : ℕ) (bytes : List ℕ) (i : ℕ) → recordAt (drop n bytes) i ≡ recordAt bytes (n + i)
@@ -63,3 +66,25 @@ module _ (g : Grammar) (i p k : ℕ) where
   pub left-none : (n : ℕ) → p ≡ at g i .production → k ≡ leftSideOf g p → n ≡ length g → n ≤ k → 0 ≡ leftOf g i
   unfolding past
   left-none n e f l h = let r : at g k ≡ past = record-past g k (omega arith) in left-found 0 e f (sym (ap (λ (x : Record). x .symbol) r))
+
+-- ---- the highest symbol named
+pub named-turn : (b : Bool) (g : Grammar) (i a t n x h : ℕ) → n ≡ length g → i < n → max a (greatest (map (countNamed b) (drop i g))) ≡ t → x ≡ countNamed b (at g i) → h ≡ max a x → max h (greatest (map (countNamed b) (drop (i + 1) g))) ≡ t
+unfolding at
+named-turn b g = greatest-turn (countNamed b) past g
+
+pub terminals-named : (g : Grammar) (n : ℕ) → n ≡ highestNamed true g → n ≡ terminalCount g
+unfolding highestNamed terminalCount
+terminals-named g n e = e
+
+pub nonterminals-named : (g : Grammar) (n : ℕ) → n ≡ highestNamed false g → n ≡ nonterminalCount g
+unfolding highestNamed nonterminalCount
+nonterminals-named g n e = e
+
+-- ---- the left-side records, of n records
+pub left-sides : (g : Grammar) (n : ℕ) → n ≡ length g → kept (atStart g) n 0 ≡ leftSides g
+unfolding leftSides
+left-sides g n e = kept-start (atStart g) n ∙ rw e
+
+pub productions-start : (g : Grammar) (n : ℕ) → n ≡ length g → 0 + length (kept (atStart g) n 0) ≡ productionCount g
+unfolding productionCount
+productions-start g n e = let l = ap length (left-sides g n e) in omega arith

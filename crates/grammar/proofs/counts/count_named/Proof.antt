@@ -1,3 +1,4 @@
+use Rattle.grammar.specs.Tests.{countNamed}
 use native.Mathlib.Omega.{arith}
 use borrow.Author.Needs.{needs}
 use Rattle.grammar.proofs.counts.count_named.Statement.{statement}
@@ -21,15 +22,18 @@ add-result c = search needs
 
 -- src/counts.rt:28:13
 returns : tie.Need-returns
-returns c = search needs
+unfolding countNamed
+returns c = (rw (c .before .if2 .taken, ← c .before .before .before .is-terminal .ensures, c .before .before .if1 .taken, ← c .symbol .ensures .0), search needs)
 
 -- src/counts.rt:30:9
 returns-2 : tie.Need-returns-2
-returns-2 c = search needs
+unfolding countNamed
+returns-2 c = (rw (c .if2 .left, ← c .before .before .is-terminal .ensures, c .before .if1 .taken), search needs)
 
 -- src/counts.rt:33:9
 returns-3 : tie.Need-returns-3
-returns-3 c = search needs
+unfolding countNamed
+returns-3 c = (rw (c .if3 .taken, ← c .before .before .is-terminal .ensures, c .before .if1 .left), search needs)
 
 -- src/counts.rt:35:5
 symbol-requires-2 : tie.Need-symbol-requires-2
@@ -41,7 +45,8 @@ add-result-2 c = search needs
 
 -- src/counts.rt:22:1
 returns-4 : tie.Need-returns-4
-returns-4 c = search needs
+unfolding countNamed
+returns-4 c = (rw (c .before .if3 .left, ← c .before .before .before .is-terminal .ensures, c .before .before .if1 .left, ← c .symbol2 .ensures .0), search needs)
 
 pub count-named-spec : {M : Type 1} → statement M
 count-named-spec =

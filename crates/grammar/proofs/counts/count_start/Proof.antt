@@ -12,11 +12,11 @@ at-start-requires c κs = search needs
 
 -- src/counts.rt:78:9
 returns : tie.Need-returns
-returns c = search needs
+returns c = (rw (← c .before .at-start .ensures, c .if1 .taken), search needs)
 
 -- src/counts.rt:73:1
 returns-2 : tie.Need-returns-2
-returns-2 c = search needs
+returns-2 c = (rw (← c .before .at-start .ensures, c .if1 .left), search needs)
 
 pub count-start-spec : {M : Type 1} → statement M
 count-start-spec = tie.close (tie.spec at-start-requires returns returns-2)

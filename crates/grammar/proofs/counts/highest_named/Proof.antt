@@ -1,3 +1,12 @@
+use Rattle.grammar.proofs.Laws.{named-turn}
+use Rattle.rules.specs.Records.{records}
+use Rattle.base.proofs.ListLoops.{greatest-start, greatest-end}
+use Rattle.base.specs.Lists.{greatest}
+use lib.ListN.{drop}
+use mathlib.Core.List.{map}
+use mathlib.Core.Path.{_≡_}
+use Prim.Native.Nat.{_≤_, _-_, max}
+use Rattle.grammar.specs.Tests.{countNamed, highestNamed}
 use borrow.Author.Needs.{needs}
 use native.Mathlib.Omega.{arith}
 use Rattle.grammar.proofs.counts.highest_named.Statement.{statement}
@@ -9,10 +18,10 @@ use Rattle.grammar.proofs.counts.larger.Reads as larger-reads
 use Rattle.grammar.proofs.records.record_count.Reads as record-count-reads
 
 abbrev Inv-loop : tie.InvT-loop
-Inv-loop g terminals n highest₀ i₀ highest i = ?
+Inv-loop g terminals n highest₀ i₀ highest i = (i ≤ n) × (highest ≤ 65536) × (max highest (greatest (map (countNamed terminals) (drop i (records g)))) ≡ highestNamed terminals (records g))
 
 abbrev μ-loop : tie.MeasureT-loop
-μ-loop g terminals n highest₀ i₀ highest i = ?
+μ-loop g terminals n highest₀ i₀ highest i = n - i
 
 -- src/counts.rt:42:9
 record-count-requires : tie.Need-record-count-requires Inv-loop μ-loop
@@ -20,7 +29,8 @@ record-count-requires c κs = search needs
 
 -- src/counts.rt:44:5
 loop-holds : tie.Need-loop-holds Inv-loop μ-loop
-loop-holds c = search needs
+unfolding highestNamed
+loop-holds c = search (needs, greatest-start)
 
 -- src/counts.rt:45:35
 count-named-requires : tie.Need-count-named-requires Inv-loop μ-loop
@@ -40,11 +50,11 @@ loop-less c = search needs
 
 -- src/counts.rt:44:5
 loop-again : tie.Need-loop-again Inv-loop μ-loop
-loop-again c = search needs
+loop-again c = search (needs, named-turn)
 
 -- src/counts.rt:39:1
 returns : tie.Need-returns Inv-loop μ-loop
-returns c = search needs
+returns c = search (needs, greatest-end)
 
 pub highest-named-spec : {M : Type 1} → statement M
 highest-named-spec =

@@ -1,3 +1,4 @@
+use Rattle.rules.specs.Grammar.{start}
 use native.Mathlib.Omega.{arith}
 use borrow.Author.Needs.{needs}
 use Rattle.grammar.proofs.counts.start.Statement.{statement}
@@ -12,6 +13,7 @@ symbol-requires c κs = search needs
 
 -- src/counts.rt:65:1
 returns : tie.Need-returns
+unfolding start
 returns c = search needs
 
 pub start-spec : {M : Type 1} → statement M
