@@ -7,10 +7,12 @@ use native.Mathlib.Nat.{add-assoc}
 use lib.ListN.{length, getD, drop, List·getD-eq-default}
 use lib.Seq.{getD-drop}
 use native.Mathlib.Decide.{decLe}
-use mathlib.Core.Bool.{Bool, true, false, false≢true}
+use mathlib.Core.Bool.{Bool, true, false, false≢true, or-false}
+use lib.Dec.{eqb}
+use borrow.Author.Tests.{eq-eqb, ne-eqb}
 use Rattle.base.specs.Lists.{greatest}
 use Rattle.base.proofs.ListLoops.{kept, kept-start, greatest-turn}
-use Rattle.rules.specs.Records.{Record, Grammar, recordAt, recordsOf, records, past, at}
+use Rattle.rules.specs.Records.{Record, Grammar, recordAt, recordsOf, records, past, at, comesBehind}
 use Rattle.rules.specs.Grammar.{atEnd, atStart, leftOf, leftSideOf, leftSides, productionCount, terminalCount, nonterminalCount}
 use Rattle.grammar.specs.Tests.{countNamed, highestNamed}
 
@@ -88,3 +90,17 @@ left-sides g n e = kept-start (atStart g) n ∙ rw e
 pub productions-start : (g : Grammar) (n : ℕ) → n ≡ length g → 0 + length (kept (atStart g) n 0) ≡ productionCount g
 unfolding productionCount
 productions-start g n e = let l = ap length (left-sides g n e) in omega arith
+
+-- ---- a record behind another
+module _ (q r : Record) (p b : ℕ) (here : p ≡ r .production) (before : b ≡ q .production) where
+  pub behind-same : (x y : ℕ) → p ≡ b → x ≡ r .position → y ≡ q .position → eqb x (y + 1) ≡ comesBehind q r
+  unfolding comesBehind
+  behind-same x y e f h = rw (← here, ← before, ← f, ← h, eq-eqb p b e, ne-eqb p (b + 1) (λ z. omega arith), or-false)
+
+  pub behind-next : (x : ℕ) → (p ≡ b → ⊥) → p ≡ b + 1 → x ≡ r .position → eqb x 0 ≡ comesBehind q r
+  unfolding comesBehind
+  behind-next x n e f = rw (← here, ← before, ← f, ne-eqb p b n, eq-eqb p (b + 1) e)
+
+  pub behind-neither : (p ≡ b → ⊥) → (p ≡ b + 1 → ⊥) → false ≡ comesBehind q r
+  unfolding comesBehind
+  behind-neither n e = rw (← here, ← before, ne-eqb p b n, ne-eqb p (b + 1) e)

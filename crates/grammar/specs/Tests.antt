@@ -5,7 +5,8 @@ use mathlib.Core.List.{map}
 use lib.Dec.{eqb}
 use Rattle.base.specs.Pick.{pick}
 use Rattle.base.specs.Lists.{greatest}
-use Rattle.rules.specs.Records.{Record, Grammar, at, isLeftSide, isTerminal}
+use Rattle.rules.specs.Limits.{limits}
+use Rattle.rules.specs.Records.{Record, Grammar, at, isLeftSide, isTerminal, badRecord, outOfSequence}
 use Rattle.rules.specs.Tokens.{TokenSet, has}
 use Rattle.rules.specs.Grammar.{atStart, sideDerives, collect}
 
@@ -18,6 +19,16 @@ countNamed false r = pick (isTerminal r) 0 (r .symbol + 1)
 unfoldable pub highestNamed : Bool → Grammar → ℕ
 unfolding greatest countNamed
 highestNamed terminals g = greatest (map (countNamed terminals) g)
+
+-- ---- refusals 4 and 5
+-- a left side that names a terminal
+unfoldable pub terminalLeft : Record → Bool
+unfolding isLeftSide isTerminal
+terminalLeft r = isLeftSide r && isTerminal r
+
+unfoldable pub isFault : Grammar → ℕ → Bool
+unfolding limits badRecord outOfSequence at
+isFault g i = badRecord limits (at g i) || outOfSequence limits g i
 
 -- record i is the left side of production p
 unfoldable pub beginsProduction : Grammar → ℕ → ℕ → Bool

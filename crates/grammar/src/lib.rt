@@ -1,4 +1,5 @@
 // The coded grammar: what stands in its records, and which bytes are one.
 pub mod counts;
+pub mod faults;
 pub mod items;
 pub mod records;
