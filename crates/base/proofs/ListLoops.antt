@@ -7,6 +7,7 @@ use mathlib.Core.List.{List, [], _∷_, map}
 use native.Mathlib.Omega.{arith}
 use native.Mathlib.Nat.{sub-zero}
 use native.Mathlib.Numerals.{add-one}
+use native.Mathlib.Decide.{ℕ-discrete}
 use borrow.Author.Tests.{not-true, not-false}
 use lib.ListN.{length, getD, drop, drop-of-length-le}
 use lib.Seq.{drop-cons}
@@ -126,8 +127,8 @@ module _ {A : Type 0} (f : A → ℕ) (d : A) (xs : List A) where
 
 -- ---- step after step until the test holds, i of n steps made
 module _ {ℓ} {A : Type ℓ} (test : A → Bool) (step : A → A) where
-  pub until-start : (n : ℕ) (a : A) → until test step (n - 0) a ≡ until test step n a
-  until-start n a = rw sub-zero
+  pub until-whole : (n m : ℕ) (a : A) → n ≡ m → until test step (n - 0) a ≡ until test step m a
+  until-whole n m a e = rw (sub-zero, e)
 
   until-more : (n m : ℕ) (a : A) → n ≡ m + 1 → test a ≡ false → until test step n a ≡ until test step m (step a)
   unfolding until
@@ -155,3 +156,26 @@ module _ {ℓ} {A : Type ℓ} (test : A → Bool) (step : A → A) where
 -- ---- a search over all of a count that is known by another name
 pub first-whole : (test : ℕ → Bool) (n m : ℕ) → n ≡ m → firstFrom test (n - 0) 0 ≡ firstFrom test m 0
 first-whole test n m e = rw (sub-zero, e)
+
+-- a search that found nothing: no number passes the test
+pub first-never : (test : ℕ → Bool) (n i k : ℕ) → firstFrom test n i ≡ i + n → i ≤ k → k < i + n → test k ≡ false
+unfolding firstFrom
+first-never test zero i k e h l = absurd (omega arith)
+first-never test (suc n) i k e h l = go (test i) refl (first-never test n (suc i) k)
+  where
+    go : (b : Bool) → test i ≡ b → (firstFrom test n (suc i) ≡ suc i + n → suc i ≤ k → k < suc i + n → test k ≡ false) → test k ≡ false
+    go true f later = let q : i ≡ i + suc n = rw f at e in absurd (omega arith)
+    go false f later =
+        elim (ℕ-discrete i k) [
+          yes q ↦ ap test (sym q) ∙ f
+        | no q ↦ let r : firstFrom test n (suc i) ≡ i + suc n = rw f at e in later (omega arith) (omega arith) (omega arith)
+        ]
+
+-- what is at most b of each element is so of the greatest
+pub greatest-below : {A : Type 0} (f : A → ℕ) (d : A) (b : ℕ) (xs : List A) → ((i : ℕ) → i < length xs → f (getD xs i d) ≤ b) → greatest (map f xs) ≤ b
+unfolding greatest
+greatest-below f d b [] h = omega arith
+greatest-below f d b (x ∷ xs) h =
+    let p : f x ≤ b = h 0 (omega arith) in
+    let q : greatest (map f xs) ≤ b = greatest-below f d b xs (λ i l. h (suc i) (omega arith)) in
+    omega arith

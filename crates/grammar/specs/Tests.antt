@@ -8,7 +8,7 @@ use Rattle.base.specs.Lists.{greatest}
 use Rattle.rules.specs.Limits.{limits}
 use Rattle.rules.specs.Records.{Record, Grammar, at, isLeftSide, isTerminal, badRecord, outOfSequence}
 use Rattle.rules.specs.Tokens.{TokenSet, has}
-use Rattle.rules.specs.Grammar.{atStart, sideDerives, collect}
+use Rattle.rules.specs.Grammar.{atStart, hasProduction, sideDerives, collect}
 
 -- one more than the symbol of a record of the kind, and 0 of the other kind: terminals if the test says so, else nonterminals
 unfoldable pub countNamed : Bool → Record → ℕ
@@ -35,12 +35,26 @@ unfoldable pub beginsProduction : Grammar → ℕ → ℕ → Bool
 unfolding at isLeftSide
 beginsProduction g p i = isLeftSide (at g i) && eqb (at g i .production) p
 
--- the left side of a production, if record i is one, is not collected though its right side derives a string
+-- ---- refusal 7
+unfoldable pub lacksProduction : Grammar → ℕ → Bool
+unfolding hasProduction
+lacksProduction g a = not (hasProduction g a)
+
+-- ---- refusal 8
+-- the production of record i has its left side collected, if its right side derives a string
+unfoldable pub isCollected : Grammar → TokenSet → ℕ → Bool
+unfolding at sideDerives has
+isCollected g found i = not (sideDerives g found i) || has found (at g i .symbol)
+
 unfoldable pub uncollected : Grammar → TokenSet → ℕ → Bool
-unfolding at atStart sideDerives has
-uncollected g found i = pick (atStart g i) (not (not (sideDerives g found i) || has found (at g i .symbol))) false
+unfolding atStart isCollected
+uncollected g found i = pick (atStart g i) (not (isCollected g found i)) false
 
 -- one turn of a round over the productions
 unfoldable pub collectAt : Grammar → ℕ → TokenSet → TokenSet
 unfolding atStart collect
 collectAt g i found = pick (atStart g i) (collect g i found) found
+
+unfoldable pub isBarren : TokenSet → ℕ → Bool
+unfolding has
+isBarren found a = not (has found a)

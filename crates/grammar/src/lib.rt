@@ -2,4 +2,6 @@
 pub mod counts;
 pub mod faults;
 pub mod items;
+pub mod naming;
+pub mod productive;
 pub mod records;

@@ -7,7 +7,7 @@ ghost use Rattle.rules.specs.Records.{at, records, numberAt, isTerminal};
 
 // How many whole records the bytes have.
 pub fn record_count(g: &[u8]) -> usize
-    ensures { λ r. ⌜ (r ≡ length (records (now (g .entry)))) × (8 * r ≤ length (now (g .entry))) ⌝ }
+    ensures { λ r. ⌜ (r ≡ length (records (now (g .entry)))) × (8 * r ≤ length (now (g .entry))) × (length (now (g .entry)) < 8 * r + 8) ⌝ }
 {
     g.len() / 8
 }
