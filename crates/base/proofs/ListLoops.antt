@@ -179,3 +179,12 @@ greatest-below f d b (x ∷ xs) h =
     let p : f x ≤ b = h 0 (omega arith) in
     let q : greatest (map f xs) ≤ b = greatest-below f d b xs (λ i l. h (suc i) (omega arith)) in
     omega arith
+
+pub first-bound : (test : ℕ → Bool) (n i : ℕ) → firstFrom test n i ≤ i + n
+unfolding firstFrom
+first-bound test zero i = omega arith
+first-bound test (suc n) i = go (test i) refl (first-bound test n (suc i))
+  where
+    go : (b : Bool) → test i ≡ b → firstFrom test n (suc i) ≤ suc i + n → firstFrom test (suc n) i ≤ i + suc n
+    go true f later = rw f (omega arith)
+    go false f later = rw f (omega arith)

@@ -2,13 +2,17 @@
 use Prim.Native.Nat.{ℕ, _+_}
 use mathlib.Core.Bool.{Bool, true, false, not, _&&_, _||_}
 use mathlib.Core.List.{map}
-use lib.Dec.{eqb}
+use lib.ListN.{length}
+use lib.Dec.{eqb, ltb}
 use Rattle.base.specs.Pick.{pick}
 use Rattle.base.specs.Lists.{greatest}
 use Rattle.rules.specs.Limits.{limits}
 use Rattle.rules.specs.Records.{Record, Grammar, at, isLeftSide, isTerminal, badRecord, outOfSequence}
 use Rattle.rules.specs.Tokens.{TokenSet, has}
-use Rattle.rules.specs.Grammar.{atStart, hasProduction, sideDerives, collect}
+use Rattle.rules.specs.Grammar.{atStart, hasProduction, nonterminalCount, sideDerives, collect, firstStart, firstWithout, firstBarren}
+use Rattle.rules.specs.declared.GrammarRefusal.the-variants.{StartAgain, NoProduction, NoString}
+use Rattle.rules.specs.declared.GrammarAnswer.{GrammarAnswer}
+use Rattle.rules.specs.declared.GrammarAnswer.the-variants.{Coded, Refused}
 
 -- one more than the symbol of a record of the kind, and 0 of the other kind: terminals if the test says so, else nonterminals
 unfoldable pub countNamed : Bool → Record → ℕ
@@ -58,3 +62,13 @@ collectAt g i found = pick (atStart g i) (collect g i found) found
 unfoldable pub isBarren : TokenSet → ℕ → Bool
 unfolding has
 isBarren found a = not (has found a)
+
+-- ---- refusals 6 to 8 in their order
+unfoldable pub answerFromSix : Grammar → GrammarAnswer
+answerFromSix g =
+    let m : ℕ = nonterminalCount g in
+    let six : GrammarAnswer = Refused (StartAgain (at g (firstStart g) .production)) in
+    let seven : GrammarAnswer = Refused (NoProduction (firstWithout g)) in
+    let eight : GrammarAnswer = pick (ltb (firstBarren g) m) (Refused (NoString (firstBarren g))) Coded in
+    let fromSeven : GrammarAnswer = pick (ltb (firstWithout g) m) seven eight in
+    pick (ltb (firstStart g) (length g)) six fromSeven
