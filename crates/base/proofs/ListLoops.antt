@@ -167,8 +167,8 @@ first-never test (suc n) i k e h l = go (test i) refl (first-never test n (suc i
     go true f later = let q : i ≡ i + suc n = rw f at e in absurd (omega arith)
     go false f later =
         elim (ℕ-discrete i k) [
-          yes q ↦ ap test (sym q) ∙ f
-        | no q ↦ let r : firstFrom test n (suc i) ≡ i + suc n = rw f at e in later (omega arith) (omega arith) (omega arith)
+          | yes q ↦ ap test (sym q) ∙ f
+          | no q ↦ let r : firstFrom test n (suc i) ≡ i + suc n = rw f at e in later (omega arith) (omega arith) (omega arith)
         ]
 
 -- what is at most b of each element is so of the greatest

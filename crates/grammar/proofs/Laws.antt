@@ -9,14 +9,14 @@ use lib.ListN.{length, getD, drop, drop-of-length-le, List·getD-eq-default}
 use lib.Seq.{getD-drop, drop-cons}
 use lib.Pow.{pow-lt}
 use native.Mathlib.Decide.{decLe}
-use mathlib.Core.Bool.{Bool, true, false, not, false≢true, or-false}
-use lib.Dec.{eqb, leb}
-use borrow.Author.Tests.{not-true, not-false, eq-eqb, ne-eqb, lt-ltb, le-ltb, le-leb, lt-leb}
+use mathlib.Core.Bool.{Bool, true, false, not, false≢true}
+use lib.Dec.{leb}
+use borrow.Author.Tests.{not-true, not-false, lt-ltb, le-ltb, le-leb, lt-leb}
 use Rattle.base.specs.Loops.{firstFrom}
 use Rattle.base.specs.Pick.{pick}
 use Rattle.base.specs.Lists.{greatest, eachOf, foldOver}
 use Rattle.base.proofs.ListLoops.{first-whole, kept, kept-start, kept-fold-turn, kept-each-turn, kept-each-fails, greatest-turn}
-use Rattle.rules.specs.Records.{Record, Grammar, recordAt, recordsOf, records, past, at, comesBehind}
+use Rattle.rules.specs.Records.{Record, Grammar, recordAt, recordsOf, records, past, at}
 use Rattle.rules.specs.Tokens.{TokenSet}
 use Rattle.rules.specs.Grammar.{Symbol, collect, allCollected, productive, firstBarren, symbolOf, sideOf, atEnd, atStart, isLeftSideOf, leftOf, leftSideOf, leftSides, productionCount, terminalCount, nonterminalCount}
 use Rattle.grammar.specs.Tests.{countNamed, highestNamed, lacksProduction, collectAt, isCollected, uncollected, isBarren}
@@ -59,10 +59,10 @@ past-end g n i e h = let l : length g ≤ i + 1 = omega arith in rw (record-past
 pub behind-dot : (bytes : List ℕ) (i : ℕ) → atEnd (records bytes) i ≡ false → 8 * (i + 1) + 8 ≤ length bytes
 behind-dot bytes i f =
     elim (decLe (8 * (i + 1) + 8) (length bytes)) [
-      yes h ↦ h
-    | no h ↦ let l = length-records bytes in
-        let q : true ≡ atEnd (records bytes) i = past-end (records bytes) (length (records bytes)) i refl (omega arith) in
-        absurd (false≢true (sym f ∙ sym q))
+      | yes h ↦ h
+      | no h ↦ let l = length-records bytes in
+          let q : true ≡ atEnd (records bytes) i = past-end (records bytes) (length (records bytes)) i refl (omega arith) in
+          absurd (false≢true (sym f ∙ sym q))
     ]
 
 module _ (g : Grammar) (i p k : ℕ) where
@@ -96,27 +96,13 @@ pub productions-start : (g : Grammar) (n : ℕ) → n ≡ length g → 0 + lengt
 unfolding productionCount
 productions-start g n e = let l = ap length (left-sides g n e) in omega arith
 
--- ---- a record behind another
-module _ (q r : Record) (p b : ℕ) (here : p ≡ r .production) (before : b ≡ q .production) where
-  pub behind-same : (x y : ℕ) → p ≡ b → x ≡ r .position → y ≡ q .position → eqb x (y + 1) ≡ comesBehind q r
-  unfolding comesBehind
-  behind-same x y e f h = rw (← here, ← before, ← f, ← h, eq-eqb p b e, ne-eqb p (b + 1) (λ z. omega arith), or-false)
-
-  pub behind-next : (x : ℕ) → (p ≡ b → ⊥) → p ≡ b + 1 → x ≡ r .position → eqb x 0 ≡ comesBehind q r
-  unfolding comesBehind
-  behind-next x n e f = rw (← here, ← before, ← f, ne-eqb p b n, eq-eqb p (b + 1) e)
-
-  pub behind-neither : (p ≡ b → ⊥) → (p ≡ b + 1 → ⊥) → false ≡ comesBehind q r
-  unfolding comesBehind
-  behind-neither n e = rw (← here, ← before, ne-eqb p b n, ne-eqb p (b + 1) e)
-
 -- ---- a nonterminal without production
 pub lacks : (g : Grammar) (a n k : ℕ) → n ≡ length g → k ≡ firstFrom (isLeftSideOf g a) (length g) 0 → leb n k ≡ lacksProduction g a
 unfolding lacksProduction
 lacks g a n k e f =
     elim (decLe n k) [
-      yes h ↦ rw (← f, ← e, le-leb n k h, le-ltb k n h)
-    | no h ↦ let l : k < n = omega arith in rw (← f, ← e, lt-leb n k l, lt-ltb k n l)
+      | yes h ↦ rw (← f, ← e, le-leb n k h, le-ltb k n h)
+      | no h ↦ let l : k < n = omega arith in rw (← f, ← e, lt-leb n k l, lt-ltb k n l)
     ]
 
 -- ---- the symbols behind a dot, up to the next left side; k is the record at hand and n the number of records

@@ -1,6 +1,5 @@
 // Refusals 3 to 5: the length of the bytes, and what one record may hold and where it may stand.
 use rules::GrammarRefusal;
-
 ghost use mathlib.Core.Path.{_≡_};
 ghost use Prim.Native.Nat.{_+_, _-_, _*_, _≤_, _<_};
 ghost use lib.ListN.{length};

@@ -6,8 +6,8 @@ pub mod naming;
 pub mod productive;
 pub mod records;
 
-use rules::{GrammarAnswer, GrammarRefusal};
-
+use rules::GrammarAnswer;
+use rules::GrammarRefusal;
 ghost use mathlib.Core.Path.{_≡_};
 ghost use lib.ListN.{length};
 ghost use Rattle.rules.specs.Limits.{limits};

@@ -1,19 +1,8 @@
-use Rattle.grammar.proofs.Laws.{terminals-named}
-use native.Mathlib.Omega.{arith}
+-- `grammar::counts::terminal_count` meets its contract.
 use borrow.Author.Needs.{needs}
+use Rattle.grammar.proofs.Laws.{terminals-named}
 use Rattle.grammar.proofs.counts.terminal_count.Statement.{statement}
 use Rattle.grammar.proofs.counts.terminal_count.Tie as tie
-use Rattle.grammar.proofs.counts.terminal_count.Reads as reads
-use Rattle.grammar.proofs.counts.terminal_count.Lts as lts
-use Rattle.grammar.proofs.counts.highest_named.Reads as highest-named-reads
-
--- src/counts.rt:54:5
-highest-named-requires : tie.Need-highest-named-requires
-highest-named-requires c κs = search needs
-
--- src/counts.rt:51:1
-returns : tie.Need-returns
-returns c = search (needs, terminals-named)
 
 pub terminal-count-spec : {M : Type 1} → statement M
-terminal-count-spec = tie.close (tie.spec highest-named-requires returns)
+terminal-count-spec = tie.close (tie.spec (λ c κs. search needs) (λ c. search (needs, terminals-named)))

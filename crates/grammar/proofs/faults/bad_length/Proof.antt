@@ -1,24 +1,18 @@
+-- `grammar::faults::bad_length` meets its contract.
+use Rattle.base.proofs.Kit.{tests}
 use Rattle.rules.specs.Limits.{limits}
 use Rattle.rules.specs.Records.{badLength}
-use Rattle.base.proofs.Kit.{tests}
-use borrow.Author.Needs.{needs}
-use native.Mathlib.Omega.{arith}
 use Rattle.grammar.proofs.faults.bad_length.Statement.{statement}
 use Rattle.grammar.proofs.faults.bad_length.Tie as tie
-use Rattle.grammar.proofs.faults.bad_length.Reads as reads
-use Rattle.grammar.proofs.faults.bad_length.Lts as lts
 
--- src/faults.rt:18:9
 returns : tie.Need-returns
 unfolding badLength limits
 returns c = search tests
 
--- src/faults.rt:21:9
 returns-2 : tie.Need-returns-2
 unfolding badLength limits
 returns-2 c = search tests
 
--- src/faults.rt:13:1
 returns-3 : tie.Need-returns-3
 unfolding badLength limits
 returns-3 c = search tests

@@ -1,34 +1,14 @@
-use native.Mathlib.Omega.{arith}
+-- `grammar::records::zero_byte` meets its contract.
 use borrow.Author.Needs.{needs}
 use Rattle.rules.specs.Records.{recordAt}
 use Rattle.grammar.proofs.Laws.{record-at}
 use Rattle.grammar.proofs.records.zero_byte.Statement.{statement}
 use Rattle.grammar.proofs.records.zero_byte.Tie as tie
-use Rattle.grammar.proofs.records.zero_byte.Reads as reads
-use Rattle.grammar.proofs.records.zero_byte.Lts as lts
-use Rattle.base.proofs.wide.Reads as wide-reads
 
--- src/records.rt:52:18
-mul-wide : tie.Need-mul-wide
-mul-wide c = search needs
-
--- src/records.rt:52:18
-add-wide : tie.Need-add-wide
-add-wide c = search needs
-
--- src/records.rt:52:16
-shared-slice-read-wide : tie.Need-shared-slice-read-wide
-shared-slice-read-wide c = search needs
-
--- src/records.rt:52:5
-wide-requires : tie.Need-wide-requires
-wide-requires c κs = search needs
-
--- src/records.rt:48:1
 returns : tie.Need-returns
 unfolding recordAt
 returns c = search (needs, record-at)
 
 pub zero-byte-spec : {M : Type 1} → statement M
 zero-byte-spec =
-    tie.close (tie.spec mul-wide add-wide shared-slice-read-wide wide-requires returns)
+    tie.close (tie.spec (λ c. search needs) (λ c. search needs) (λ c. search needs) (λ c κs. search needs) returns)
