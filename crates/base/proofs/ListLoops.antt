@@ -8,9 +8,9 @@ use native.Mathlib.Omega.{arith}
 use native.Mathlib.Nat.{sub-zero}
 use native.Mathlib.Numerals.{add-one}
 use native.Mathlib.Decide.{ℕ-discrete}
-use borrow.Author.Tests.{not-true, not-false}
 use lib.ListN.{length, getD, drop, drop-of-length-le}
 use lib.Seq.{drop-cons}
+use borrow.Author.Tests.{not-true, not-false}
 use Rattle.base.specs.Pick.{pick}
 use Rattle.base.specs.Loops.{firstFrom, until}
 use Rattle.base.specs.Lists.{numbersFrom, upTo, greatest, keep, eachOf, foldOver}
@@ -188,3 +188,10 @@ first-bound test (suc n) i = go (test i) refl (first-bound test n (suc i))
     go : (b : Bool) → test i ≡ b → firstFrom test n (suc i) ≤ suc i + n → firstFrom test (suc n) i ≤ i + suc n
     go true f later = rw f (omega arith)
     go false f later = rw f (omega arith)
+
+-- the greatest is at least what each element has
+pub greatest-above : {A : Type 0} (f : A → ℕ) (d : A) (xs : List A) (i : ℕ) → i < length xs → f (getD xs i d) ≤ greatest (map f xs)
+unfolding greatest
+greatest-above f d [] i h = absurd (omega arith)
+greatest-above f d (x ∷ xs) zero h = omega arith
+greatest-above f d (x ∷ xs) (suc i) h = let l = greatest-above f d xs i (omega arith) in omega arith

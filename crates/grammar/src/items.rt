@@ -4,7 +4,7 @@ ghost use mathlib.Core.Bool.{false};
 ghost use Prim.Native.Nat.{_+_, _*_, _≤_, _<_};
 ghost use lib.ListN.{length};
 ghost use Rattle.rules.specs.Records.{at, records, isTerminal};
-ghost use Rattle.rules.specs.Grammar.{atStart, atEnd, leftOf, leftSideOf};
+ghost use Rattle.rules.specs.Grammar.{Symbol, atStart, atEnd, isBefore, leftOf, leftSideOf};
 ghost use Rattle.grammar.specs.Tests.{beginsProduction};
 
 // The dot of item i is at the start: record i is a left side.
@@ -15,7 +15,7 @@ pub fn at_start(g: &[u8], i: usize) -> bool
     crate::records::position(g, i) == 0
 }
 
-// The dot of item i is at the end: no symbol stands behind it.
+// The dot of item i is at the end: no symbol stands behind it. (core/mod.rs: can_reduce)
 pub fn at_end(g: &[u8], i: usize) -> bool
     requires { ⌜ 8 * i + 8 ≤ length (now g) ⌝ }
     ensures { λ r. ⌜ r ≡ atEnd (records (now (g .entry))) i ⌝ }
@@ -26,7 +26,7 @@ pub fn at_end(g: &[u8], i: usize) -> bool
     crate::records::position(g, i + 1) == 0
 }
 
-// The symbol behind the dot of item i is a terminal.
+// The symbol behind the dot of item i is a terminal. (core/mod.rs: shift_symbol)
 pub fn terminal_behind(g: &[u8], i: usize) -> bool
     requires { ⌜ atEnd (records (now g)) i ≡ false ⌝ }
     ensures { λ r. ⌜ r ≡ isTerminal (at (records (now (g .entry))) (i + 1)) ⌝ }
@@ -34,7 +34,7 @@ pub fn terminal_behind(g: &[u8], i: usize) -> bool
     crate::records::is_terminal(g, i + 1)
 }
 
-// The symbol behind the dot of item i.
+// The symbol behind the dot of item i. (core/mod.rs: shift_symbol)
 pub fn symbol_behind(g: &[u8], i: usize) -> usize
     requires { ⌜ atEnd (records (now g)) i ≡ false ⌝ }
     ensures { λ r. ⌜ (r ≡ at (records (now (g .entry))) (i + 1) .symbol) × (r < 65536) ⌝ }
@@ -42,8 +42,36 @@ pub fn symbol_behind(g: &[u8], i: usize) -> usize
     crate::records::symbol(g, i + 1)
 }
 
+// Nonterminal a stands directly behind the dot of item i. (core/mod.rs: can_shift_nonterminal)
+pub fn before_nonterminal(g: &[u8], a: usize, i: usize) -> bool
+    requires { ⌜ 8 * i + 8 ≤ length (now g) ⌝ }
+    ensures { λ r. ⌜ r ≡ isBefore (records (now (g .entry))) (Symbol.nonterminal a) i ⌝ }
+{
+    if at_end(g, i) {
+        return false;
+    }
+    if terminal_behind(g, i) {
+        return false;
+    }
+    symbol_behind(g, i) == a
+}
+
+// Terminal t stands directly behind the dot of item i.
+pub fn before_terminal(g: &[u8], t: usize, i: usize) -> bool
+    requires { ⌜ 8 * i + 8 ≤ length (now g) ⌝ }
+    ensures { λ r. ⌜ r ≡ isBefore (records (now (g .entry))) (Symbol.terminal t) i ⌝ }
+{
+    if at_end(g, i) {
+        return false;
+    }
+    if terminal_behind(g, i) {
+        return symbol_behind(g, i) == t;
+    }
+    false
+}
+
 // Record i is the left side of production p.
-fn is_left_side_of_production(g: &[u8], p: usize, i: usize) -> bool
+fn begins_production(g: &[u8], p: usize, i: usize) -> bool
     requires { ⌜ 8 * i + 8 ≤ length (now g) ⌝ }
     ensures { λ r. ⌜ r ≡ beginsProduction (records (now (g .entry))) p i ⌝ }
 {
@@ -59,7 +87,7 @@ pub fn left_side_of(g: &[u8], p: usize) -> usize
 {
     let n = crate::records::record_count(g);
     for i in 0..n {
-        if is_left_side_of_production(g, p, i) {
+        if begins_production(g, p, i) {
             return i;
         }
     }

@@ -6,4 +6,4 @@ use Rattle.grammar.proofs.items.symbol_behind.Statement.{statement}
 use Rattle.grammar.proofs.items.symbol_behind.Tie as tie
 
 pub symbol-behind-spec : {M : Type 1} → statement M
-symbol-behind-spec = tie.close (tie.spec (λ c. omega (arith, behind-dot)) (λ c κs. search (needs, behind-dot)) (λ c. search needs))
+symbol-behind-spec = tie.close (tie.spec (λ c. omega (arith, behind-dot)) (λ c κs. omega (arith, behind-dot)) (λ c. search needs))
