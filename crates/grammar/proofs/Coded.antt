@@ -1,0 +1,180 @@
+-- What holds of a grammar whose records meet neither refusal 4 nor 5, and of bytes that the check answers `Coded`.
+use Prim.Native.Nat.{ℕ, _+_, _*_, _%_, _≤_, _<_}
+use mathlib.Core.Path.{_≡_, refl, _∙_}
+use mathlib.Core.Bool.{Bool, true, false, not, _&&_, _||_}
+use mathlib.Core.List.{List}
+use native.Mathlib.Omega.{arith}
+use lib.ListN.{length}
+use lib.Dec.{eqb, leb, ltb}
+use borrow.Author.Tests.{eqb-true, eqb-false, leb-false, ltb-false, not-false}
+use Rattle.base.specs.Loops.{firstFrom}
+use Rattle.base.specs.Pick.{pick}
+use Rattle.base.proofs.ListLoops.{first-never, first-bound, greatest-below, greatest-above}
+use Rattle.rules.specs.Limits.{limits}
+use Rattle.rules.specs.Records.{Record, Grammar, records, past, at, isTerminal, isLeftSide, badLength, badRecord, inSequence, outOfSequence}
+use Rattle.rules.specs.Grammar.{firstFault, terminalCount, nonterminalCount, grammarAnswer}
+use Rattle.rules.specs.declared.GrammarRefusal.{GrammarRefusal}
+use Rattle.rules.specs.declared.GrammarRefusal.the-variants.{Length}
+use Rattle.rules.specs.declared.GrammarAnswer.the-variants.{Coded, Refused}
+use Rattle.grammar.specs.Tests.{isFault, countNamed}
+use Rattle.grammar.proofs.Laws.{length-records}
+
+-- a disjunction that fails
+or-left : (a b : Bool) → (a || b) ≡ false → a ≡ false
+or-left true b e = e
+or-left false b e = refl
+
+or-right : (a b : Bool) → (a || b) ≡ false → b ≡ false
+or-right true b e = cc
+or-right false b e = e
+
+-- ---- one record
+module _ (r : Record) (fine : badRecord limits r ≡ false) where
+  symbol-limit : r .symbol < pick (isTerminal r) 62 64
+  unfolding badRecord limits
+  symbol-limit = leb-false _ _ (or-right (ltb 1 (r .kind)) _ (or-right (not (eqb (r .zeroByte) 0)) _ fine))
+
+  pub terminal-below : isTerminal r ≡ true → r .symbol < 62
+  terminal-below t = rw t at symbol-limit
+
+  pub symbol-below : r .symbol < 64
+  symbol-below = go (isTerminal r) refl
+    where
+      go : (b : Bool) → isTerminal r ≡ b → r .symbol < 64
+      go true t = let h : r .symbol < 62 = rw t at symbol-limit in omega arith
+      go false t = rw t at symbol-limit
+
+-- ---- the records of a grammar
+module _ (g : Grammar) (clean : firstFault limits g ≡ length g) where
+  pub no-fault : (i : ℕ) → i < length g → isFault g i ≡ false
+  unfolding firstFault isFault
+  no-fault i h = first-never (isFault g) (length g) 0 i (clean ∙ omega arith) (omega arith) (omega arith)
+
+  pub fine-record : (i : ℕ) → i < length g → badRecord limits (at g i) ≡ false
+  unfolding isFault
+  fine-record i h = or-left _ _ (no-fault i h)
+
+  pub fine-place : (i : ℕ) → i < length g → outOfSequence limits g i ≡ false
+  unfolding isFault
+  fine-place i h = or-right (badRecord limits (at g i)) _ (no-fault i h)
+
+pub symbol-within : (bytes : List ℕ) (i : ℕ) → firstFault limits (records bytes) ≡ length (records bytes) → 8 * i + 8 ≤ length bytes → at (records bytes) i .symbol < 64
+symbol-within bytes i clean h =
+    let l = length-records bytes in
+    symbol-below (at (records bytes) i) (fine-record (records bytes) clean i (omega arith))
+
+pub symbol-read : (bytes : List ℕ) (i a : ℕ) → firstFault limits (records bytes) ≡ length (records bytes) → 8 * i + 8 ≤ length bytes → a ≡ at (records bytes) i .symbol → a < 64
+symbol-read bytes i a clean h e = rw e (symbol-within bytes i clean h)
+
+-- ---- n and m
+module _ (g : Grammar) (clean : firstFault limits g ≡ length g) where
+  terminal-named : (i : ℕ) → i < length g → countNamed true (at g i) ≤ 62
+  unfolding countNamed
+  terminal-named i h = go (isTerminal (at g i)) refl
+    where
+      go : (b : Bool) → isTerminal (at g i) ≡ b → countNamed true (at g i) ≤ 62
+      go true t = let l = terminal-below (at g i) (fine-record g clean i h) t in rw t (omega arith)
+      go false t = rw t (omega arith)
+
+  nonterminal-named : (i : ℕ) → i < length g → countNamed false (at g i) ≤ 64
+  unfolding countNamed
+  nonterminal-named i h = go (isTerminal (at g i)) refl
+    where
+      go : (b : Bool) → isTerminal (at g i) ≡ b → countNamed false (at g i) ≤ 64
+      go true t = rw t (omega arith)
+      go false t = let l = symbol-below (at g i) (fine-record g clean i h) in rw t (omega arith)
+
+  pub terminal-count-below : terminalCount g ≤ 62
+  unfolding terminalCount countNamed at
+  terminal-count-below = greatest-below (countNamed true) past 62 g terminal-named
+
+  pub nonterminal-count-below : nonterminalCount g ≤ 64
+  unfolding nonterminalCount countNamed at
+  nonterminal-count-below = greatest-below (countNamed false) past 64 g nonterminal-named
+
+pub nonterminal-within : (g : Grammar) (m a : ℕ) → firstFault limits g ≡ length g → m ≡ nonterminalCount g → a < m → a < 64
+nonterminal-within g m a clean e h = let l = nonterminal-count-below g clean in omega arith
+
+-- ---- bytes that the check answers `Coded`
+refused-no : (why : GrammarRefusal) → Refused why ≡ Coded → ⊥
+refused-no why e = let z : _≡_ {A = ℕ} 0 1 = cc in omega arith
+
+module _ {A : Type 0} (b : Bool) (x y v : A) (e : pick b x y ≡ v) (other : x ≡ v → ⊥) where
+  pick-test : b ≡ false
+  pick-test = go b e
+    where
+      go : (c : Bool) → pick c x y ≡ v → c ≡ false
+      go true f = absurd (other f)
+      go false f = refl
+
+  pick-rest : y ≡ v
+  pick-rest = rw pick-test at e
+
+-- a search that is not below its count went through all of it
+through : (test : ℕ → Bool) (n : ℕ) → ltb (firstFrom test n 0) n ≡ false → firstFrom test n 0 ≡ n
+through test n e =
+    let h : n ≤ firstFrom test n 0 = ltb-false _ _ e in
+    let l = first-bound test n 0 in
+    omega arith
+
+module _ (bytes : List ℕ) (answer : grammarAnswer limits bytes ≡ Coded) where
+  length-fine : badLength limits bytes ≡ false
+  unfolding grammarAnswer
+  length-fine = pick-test (badLength limits bytes) (Refused Length) _ Coded answer (refused-no Length)
+
+  pub coded-whole : length bytes % 8 ≡ 0
+  unfolding badLength limits
+  coded-whole = eqb-true _ _ (not-false _ (or-right (ltb 4096 (length bytes)) _ (or-right (eqb (length bytes) 0) _ length-fine)))
+
+  pub coded-short : length bytes ≤ 4096
+  unfolding badLength limits
+  coded-short = ltb-false _ _ (or-left _ _ (or-right (eqb (length bytes) 0) _ length-fine))
+
+  pub coded-some : 0 < length bytes
+  unfolding badLength limits
+  coded-some = let n : length bytes ≡ 0 → ⊥ = eqb-false _ _ (or-left (eqb (length bytes) 0) _ length-fine) in omega arith
+
+  pub coded-clean : firstFault limits (records bytes) ≡ length (records bytes)
+  unfolding grammarAnswer isFault
+  coded-clean =
+      let four = pick-rest (badLength limits bytes) (Refused Length) _ Coded answer (refused-no Length) in
+      through (isFault (records bytes)) (length (records bytes)) (pick-test _ _ _ Coded four (refused-no _))
+
+-- ---- a record's place
+module _ (g : Grammar) (clean : firstFault limits g ≡ length g) (i : ℕ) (h : i < length g) where
+  -- its limits, behind the two tests of its sequence
+  place-limits : (leb 128 (at g i .production) || ltb 16 (at g i .position)) ≡ false
+  unfolding outOfSequence limits
+  place-limits = or-right (isLeftSide (at g i) && isTerminal (at g i)) _ (or-right (not (inSequence g i)) _ (fine-place g clean i h))
+
+  pub production-below : at g i .production < 128
+  production-below = leb-false _ _ (or-left _ _ place-limits)
+
+  pub position-below : at g i .position ≤ 16
+  position-below = ltb-false _ _ (or-right (leb 128 (at g i .production)) _ place-limits)
+
+  pub in-sequence : inSequence g i ≡ true
+  unfolding outOfSequence limits
+  in-sequence = not-false _ (or-left (not (inSequence g i)) _ (fine-place g clean i h))
+
+  pub left-nonterminal : isLeftSide (at g i) ≡ true → isTerminal (at g i) ≡ false
+  unfolding outOfSequence limits
+  left-nonterminal e =
+      let both : (isLeftSide (at g i) && isTerminal (at g i)) ≡ false = or-left _ _ (or-right (not (inSequence g i)) _ (fine-place g clean i h)) in
+      rw e at both
+
+-- ---- a symbol that is named is below n or m
+module _ (g : Grammar) (i : ℕ) (h : i < length g) where
+  pub terminal-counted : isTerminal (at g i) ≡ true → at g i .symbol < terminalCount g
+  unfolding terminalCount countNamed at
+  terminal-counted e =
+      let l : pick (isTerminal (at g i)) (at g i .symbol + 1) 0 ≤ terminalCount g = greatest-above (countNamed true) past g i h in
+      let k : at g i .symbol + 1 ≤ terminalCount g = rw e at l in
+      omega arith
+
+  pub nonterminal-counted : isTerminal (at g i) ≡ false → at g i .symbol < nonterminalCount g
+  unfolding nonterminalCount countNamed at
+  nonterminal-counted e =
+      let l : pick (isTerminal (at g i)) 0 (at g i .symbol + 1) ≤ nonterminalCount g = greatest-above (countNamed false) past g i h in
+      let k : at g i .symbol + 1 ≤ nonterminalCount g = rw e at l in
+      omega arith
