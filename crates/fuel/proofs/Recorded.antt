@@ -14,6 +14,7 @@ use Rattle.base.proofs.Lists.{among-none, among-cons, keep-among, upTo-among, f
 use Rattle.base.proofs.Members.{among-append, map-among, set-among}
 use Rattle.base.proofs.Tests.{both-true}
 use Rattle.rules.specs.Limits.{Limits}
+use Rattle.rules.proofs.Laws.{not-at-end-within}
 use Rattle.rules.specs.Records.{Grammar}
 use Rattle.rules.specs.Tokens.{TokenSet}
 use Rattle.rules.specs.Grammar.{Symbol, atStart, atEnd, isBefore, leftSides}
@@ -24,7 +25,6 @@ use Rattle.rules.specs.Merge.{Merge, headOf, groupColumns, canJoin, joinGroups,
 use Rattle.fuel.proofs.Outcomes.{Holds, holds-pick, holds-in-turn}
 use Rattle.fuel.proofs.States.{transitions-keep}
 use Rattle.fuel.proofs.Walk.{walk-keeps}
-use Rattle.knuth.proofs.Closures.{not-at-end-within}
 
 module _ (g : Grammar) where
   -- every item of the state is a record

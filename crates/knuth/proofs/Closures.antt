@@ -5,33 +5,25 @@ use mathlib.Core.Path.{_≡_, refl, sym, ap, _∙_}
 use mathlib.Core.Bool.{Bool, true, false, _&&_, _||_, not, true≢false}
 use mathlib.Core.List.{List, _∷_, nil≢cons, head-eq-of-cons-eq, tail-eq-of-cons-eq}
 use native.Mathlib.Omega.{arith}
-use native.Mathlib.Decide.{decLe}
 use borrow.Author.Tests.{ne-eqb, not-true}
-use lib.ListN.{length, replicate, length-replicate, List·getD-eq-default}
+use lib.ListN.{length, replicate, length-replicate}
 use Rattle.base.specs.Pick.{pick}
 use Rattle.base.specs.Among.{Among, here, later}
 use Rattle.base.specs.Lists.{foldOver}
 use Rattle.base.proofs.Lists.{among-at, at-replicate, fold-keeps, each-true}
 use Rattle.base.proofs.Tests.{both-true, implied-true}
 use Rattle.base.proofs.Until.{Steps, rounds-keep, rounds-end}
-use Rattle.rules.specs.Records.{Grammar, past, at, isTerminal, isLeftSide}
+use Rattle.rules.proofs.Laws.{not-at-end-within, nonterminal-counted}
+use Rattle.rules.specs.Records.{Grammar, past, at, isTerminal}
 use Rattle.rules.specs.Tokens.{TokenSet, Has, has, join, within, without}
 use Rattle.rules.specs.Grammar.{Symbol, nonterminal, terminal, symbolOf, atEnd, symbolsBehind, leftSides, terminalCount, nonterminalCount}
 use Rattle.rules.specs.First.{Sets, setOf, joinAt, first0, first1, addFirst, firstSettled, firstSets}
 use Rattle.rules.specs.States.{Entry, State, Follow, noSet, asks, ask, answeredBy, askEntries, askLeftSides, closureSettled, closureSets}
 use Rattle.sets.proofs.Laws.{within-true, none-below, join-below, without-below}
 use Rattle.sets.proofs.Tables.{Grows, joinAt-grows, joinAt-has, Narrow, mass, mass-le, joinAt-rests, joinAt-adds, joinAt-narrow, joinAt-length}
-use Rattle.knuth.proofs.Productions.{terminals-below, nonterminal-counted, nonterminal-record}
+use Rattle.knuth.proofs.Productions.{terminals-below, nonterminal-record}
 use Rattle.knuth.proofs.Dots.{at-end-behind, not-at-end-behind}
 use Rattle.knuth.proofs.FirstSettles.{first0-narrow}
-
--- a record that is not past the end is one of the grammar's
-pub not-at-end-within : (g : Grammar) (i : ℕ) → atEnd g i ≡ false → i + 1 < length g
-unfolding atEnd at past isLeftSide
-not-at-end-within g i e = elim (decLe (length g) (i + 1)) [
-  | yes h ↦ absurd (true≢false (rw (List·getD-eq-default g past h) at e))
-  | no h ↦ omega arith
-]
 
 -- a symbol behind the dot: the dot is not at the end
 not-at-end : (g : Grammar) (i : ℕ) {x : Symbol} {β : List Symbol} → symbolsBehind g i ≡ x ∷ β

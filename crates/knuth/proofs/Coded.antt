@@ -1,18 +1,19 @@
 -- What the check's answer `Coded` says of a grammar, and refusal 8.
-use Prim.Native.Nat.{ℕ, zero, suc, _/_, _%_, _<_}
-use mathlib.Core.Path.{_≡_, refl, sym, ap}
+use Prim.Native.Nat.{ℕ, _%_, _<_}
+use mathlib.Core.Path.{_≡_, refl, sym}
 use mathlib.Core.Bool.{Bool, true, false, _&&_, _||_, not}
 use mathlib.Core.List.{List, [], _∷_}
 use native.Mathlib.Omega.{arith}
-use lib.ListN.{length, drop}
+use lib.ListN.{length}
 use lib.Dec.{eqb, ltb}
 use borrow.Author.Tests.{eqb-true, eqb-false, ltb-true, not-false, not-true}
 use Rattle.base.specs.Pick.{pick}
 use Rattle.base.specs.Among.{Among, here, later}
 use Rattle.base.proofs.Found.{before-first, at-first, none-first}
 use Rattle.base.proofs.Tests.{or-false}
+use Rattle.rules.proofs.Laws.{length-records}
 use Rattle.rules.specs.Limits.{Limits}
-use Rattle.rules.specs.Records.{Grammar, at, recordsOf, records, badLength, isTerminal, isLeftSide, badRecord, inSequence, outOfSequence}
+use Rattle.rules.specs.Records.{Grammar, at, records, badLength, isTerminal, isLeftSide, badRecord, inSequence, outOfSequence}
 use Rattle.rules.specs.Tokens.{has}
 use Rattle.rules.specs.Grammar.{Symbol, nonterminal, terminal, symbolsBehind, nonterminalCount, namesStart, hasProduction, productive, firstFault, faultAt, firstStart, firstWithout, firstBarren, grammarAnswer}
 use Rattle.rules.specs.declared.GrammarRefusal.{GrammarRefusal}
@@ -52,18 +53,13 @@ checked l bytes e =
     }
 
 -- ---- refusal 3: there is a record
-records-length : (k : ℕ) (bytes : List ℕ) → length (recordsOf k bytes) ≡ k
-unfolding recordsOf
-records-length zero bytes = refl
-records-length (suc k) bytes = ap suc (records-length k (drop 8 bytes))
-
 pub coded-has-a-record : (l : Limits) (bytes : List ℕ) → grammarAnswer l bytes ≡ Coded → 0 < length (records bytes)
-unfolding grammarAnswer records badLength
+unfolding grammarAnswer badLength
 coded-has-a-record l bytes e =
     let (f, _) = passed (badLength l bytes) _ _ _ (not-coded _) e in
     let (some, rest) = or-false (eqb (length bytes) 0) _ f in
     let (_, whole) = or-false (ltb (l .bytes) (length bytes)) _ rest in
-    omega (arith, records-length (length bytes / 8) bytes, eqb-false (length bytes) 0 some, eqb-true (length bytes % 8) 0 (not-false _ whole))
+    omega (arith, length-records bytes, eqb-false (length bytes) 0 some, eqb-true (length bytes % 8) 0 (not-false _ whole))
 
 -- ---- refusal 5
 faultless-left : (l : Limits) (g : Grammar) → ((i : ℕ) → i < length g → (badRecord l (at g i) || outOfSequence l g i) ≡ false) → NonterminalsLeft g

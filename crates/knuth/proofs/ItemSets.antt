@@ -17,6 +17,7 @@ use Rattle.base.proofs.Members.{among-append, append-left, append-right, map-am
 use Rattle.base.proofs.Tests.{both-true, either-true, or-false, some-true, true-some}
 use Rattle.base.proofs.Until.{rounds-keep}
 use Rattle.rules.specs.Limits.{Limits}
+use Rattle.rules.proofs.Laws.{not-at-end-within}
 use Rattle.rules.specs.Records.{Record, Grammar, at, isTerminal, isLeftSide, badRecord, comesBehind, inSequence, outOfSequence}
 use Rattle.rules.specs.Tokens.{TokenSet, Has, has, eof}
 use Rattle.rules.specs.Grammar.{Symbol, nonterminal, atStart, atEnd, isBefore, symbolsBehind, leftSides, start, namesStart, terminalCount, nonterminalCount}
@@ -38,7 +39,7 @@ use Rattle.knuth.proofs.Productions.{rule-of-left-side, left-side-of-ru
 use Rattle.knuth.proofs.FirstSets.{first-behind-dot}
 use Rattle.knuth.proofs.Dots.{before-behind, symbol-behind, end-behind, at-end-behind}
 use Rattle.knuth.proofs.Table.{clear→table}
-use Rattle.knuth.proofs.Closures.{not-at-end-within, asks-behind, behind-asks, kernel-answered, left-side-answered, closure-in-range, canonical-follows-narrow}
+use Rattle.knuth.proofs.Closures.{asks-behind, behind-asks, kernel-answered, left-side-answered, closure-in-range, canonical-follows-narrow}
 
 module _ (g : Grammar) where
   abbrev n : ℕ

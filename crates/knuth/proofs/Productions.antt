@@ -9,7 +9,8 @@ use lib.ListN.{length, drop}
 use borrow.Author.Tests.{eqb-true, eq-eqb}
 use Rattle.base.specs.Pick.{pick}
 use Rattle.base.specs.Among.{Among, here, later}
-use Rattle.base.proofs.Lists.{among-none, among-cons, among-at, among-drop, among-map, keep-among, among-keep, upTo-among, le-greatest}
+use Rattle.base.proofs.Lists.{among-none, among-cons, among-at, among-drop, keep-among, among-keep, upTo-among}
+use Rattle.rules.proofs.Laws.{terminal-counted, nonterminal-counted}
 use Rattle.rules.specs.Records.{Record, Grammar, past, at, isTerminal, isLeftSide}
 use Rattle.rules.specs.Grammar.{Symbol, nonterminal, terminal, symbolOf, sideOf, symbolsBehind, atStart, leftSides, terminalCount, nonterminalCount}
 use Rattle.knuth.specs.Rules.{Rule}
@@ -59,20 +60,6 @@ nonterminal-record r a e = by-kind (isTerminal r) e
     by-kind : (b : Bool) → pick b (terminal (r .symbol)) (nonterminal (r .symbol)) ≡ nonterminal a → (b ≡ false) × (r .symbol ≡ a)
     by-kind true e = absurd (let z : _≡_ {A = ℕ} 0 1 = cc in omega arith)
     by-kind false e = (refl, cc)
-
-terminal-counted : {r : Record} (g : Grammar) → Among r g → isTerminal r ≡ true → r .symbol < terminalCount g
-unfolding terminalCount
-terminal-counted {r} g m e =
-    let h = le-greatest (among-map (λ (r : Record). pick (isTerminal r) (r .symbol + 1) 0) m) in
-    let q : pick (isTerminal r) (r .symbol + 1) 0 ≡ r .symbol + 1 = rw e in
-    omega arith
-
-pub nonterminal-counted : {r : Record} (g : Grammar) → Among r g → isTerminal r ≡ false → r .symbol < nonterminalCount g
-unfolding nonterminalCount
-nonterminal-counted {r} g m e =
-    let h = le-greatest (among-map (λ (r : Record). pick (isTerminal r) 0 (r .symbol + 1)) m) in
-    let q : pick (isTerminal r) 0 (r .symbol + 1) ≡ r .symbol + 1 = rw e in
-    omega arith
 
 pub terminals-below : (g : Grammar) (i : ℕ) → TerminalsBelow (terminalCount g) (symbolsBehind g i)
 unfolding symbolsBehind

@@ -1,4 +1,5 @@
 pub mod Coding
 pub mod Examples
+pub mod Laws
 pub mod Readings
 pub mod Rooms
