@@ -9,7 +9,9 @@ use lib.Dec.{eqb, leb, ltb}
 use borrow.Author.Tests.{eqb-true, eqb-false, leb-false, ltb-false, not-false}
 use Rattle.base.specs.Loops.{firstFrom}
 use Rattle.base.specs.Pick.{pick}
-use Rattle.base.proofs.ListLoops.{first-never, first-bound, greatest-below, greatest-above}
+use Rattle.base.proofs.ListLoops.{first-never, first-bound, greatest-below}
+use Rattle.base.proofs.Tests.{or-false}
+use Rattle.rules.proofs.Laws.{length-records}
 use Rattle.rules.specs.Limits.{limits}
 use Rattle.rules.specs.Records.{Record, Grammar, records, past, at, isTerminal, isLeftSide, badLength, badRecord, inSequence, outOfSequence}
 use Rattle.rules.specs.Grammar.{firstFault, terminalCount, nonterminalCount, grammarAnswer}
@@ -17,22 +19,12 @@ use Rattle.rules.specs.declared.GrammarRefusal.{GrammarRefusal}
 use Rattle.rules.specs.declared.GrammarRefusal.the-variants.{Length}
 use Rattle.rules.specs.declared.GrammarAnswer.the-variants.{Coded, Refused}
 use Rattle.grammar.specs.Tests.{isFault, countNamed}
-use Rattle.grammar.proofs.Laws.{length-records}
-
--- a disjunction that fails
-or-left : (a b : Bool) → (a || b) ≡ false → a ≡ false
-or-left true b e = e
-or-left false b e = refl
-
-or-right : (a b : Bool) → (a || b) ≡ false → b ≡ false
-or-right true b e = cc
-or-right false b e = e
 
 -- ---- one record
 module _ (r : Record) (fine : badRecord limits r ≡ false) where
   symbol-limit : r .symbol < pick (isTerminal r) 62 64
   unfolding badRecord limits
-  symbol-limit = leb-false _ _ (or-right (ltb 1 (r .kind)) _ (or-right (not (eqb (r .zeroByte) 0)) _ fine))
+  symbol-limit = leb-false _ _ (or-false (ltb 1 (r .kind)) _ (or-false (not (eqb (r .zeroByte) 0)) _ fine .1) .1)
 
   pub terminal-below : isTerminal r ≡ true → r .symbol < 62
   terminal-below t = rw t at symbol-limit
@@ -52,11 +44,11 @@ module _ (g : Grammar) (clean : firstFault limits g ≡ length g) where
 
   pub fine-record : (i : ℕ) → i < length g → badRecord limits (at g i) ≡ false
   unfolding isFault
-  fine-record i h = or-left _ _ (no-fault i h)
+  fine-record i h = or-false (badRecord limits (at g i)) _ (no-fault i h) .0
 
   pub fine-place : (i : ℕ) → i < length g → outOfSequence limits g i ≡ false
   unfolding isFault
-  fine-place i h = or-right (badRecord limits (at g i)) _ (no-fault i h)
+  fine-place i h = or-false (badRecord limits (at g i)) _ (no-fault i h) .1
 
 pub symbol-within : (bytes : List ℕ) (i : ℕ) → firstFault limits (records bytes) ≡ length (records bytes) → 8 * i + 8 ≤ length bytes → at (records bytes) i .symbol < 64
 symbol-within bytes i clean h =
@@ -124,15 +116,15 @@ module _ (bytes : List ℕ) (answer : grammarAnswer limits bytes ≡ Coded) wher
 
   pub coded-whole : length bytes % 8 ≡ 0
   unfolding badLength limits
-  coded-whole = eqb-true _ _ (not-false _ (or-right (ltb 4096 (length bytes)) _ (or-right (eqb (length bytes) 0) _ length-fine)))
+  coded-whole = eqb-true _ _ (not-false _ (or-false (ltb 4096 (length bytes)) _ (or-false (eqb (length bytes) 0) _ length-fine .1) .1))
 
   pub coded-short : length bytes ≤ 4096
   unfolding badLength limits
-  coded-short = ltb-false _ _ (or-left _ _ (or-right (eqb (length bytes) 0) _ length-fine))
+  coded-short = ltb-false _ _ (or-false (ltb 4096 (length bytes)) _ (or-false (eqb (length bytes) 0) _ length-fine .1) .0)
 
   pub coded-some : 0 < length bytes
   unfolding badLength limits
-  coded-some = let n : length bytes ≡ 0 → ⊥ = eqb-false _ _ (or-left (eqb (length bytes) 0) _ length-fine) in omega arith
+  coded-some = let n : length bytes ≡ 0 → ⊥ = eqb-false _ _ (or-false (eqb (length bytes) 0) _ length-fine .0) in omega arith
 
   pub coded-clean : firstFault limits (records bytes) ≡ length (records bytes)
   unfolding grammarAnswer isFault
@@ -145,36 +137,20 @@ module _ (g : Grammar) (clean : firstFault limits g ≡ length g) (i : ℕ) (h :
   -- its limits, behind the two tests of its sequence
   place-limits : (leb 128 (at g i .production) || ltb 16 (at g i .position)) ≡ false
   unfolding outOfSequence limits
-  place-limits = or-right (isLeftSide (at g i) && isTerminal (at g i)) _ (or-right (not (inSequence g i)) _ (fine-place g clean i h))
+  place-limits = or-false (isLeftSide (at g i) && isTerminal (at g i)) _ (or-false (not (inSequence g i)) _ (fine-place g clean i h) .1) .1
 
   pub production-below : at g i .production < 128
-  production-below = leb-false _ _ (or-left _ _ place-limits)
+  production-below = leb-false _ _ (or-false (leb 128 (at g i .production)) _ place-limits .0)
 
   pub position-below : at g i .position ≤ 16
-  position-below = ltb-false _ _ (or-right (leb 128 (at g i .production)) _ place-limits)
+  position-below = ltb-false _ _ (or-false (leb 128 (at g i .production)) _ place-limits .1)
 
   pub in-sequence : inSequence g i ≡ true
   unfolding outOfSequence limits
-  in-sequence = not-false _ (or-left (not (inSequence g i)) _ (fine-place g clean i h))
+  in-sequence = not-false _ (or-false (not (inSequence g i)) _ (fine-place g clean i h) .0)
 
   pub left-nonterminal : isLeftSide (at g i) ≡ true → isTerminal (at g i) ≡ false
   unfolding outOfSequence limits
   left-nonterminal e =
-      let both : (isLeftSide (at g i) && isTerminal (at g i)) ≡ false = or-left _ _ (or-right (not (inSequence g i)) _ (fine-place g clean i h)) in
+      let both : (isLeftSide (at g i) && isTerminal (at g i)) ≡ false = or-false (isLeftSide (at g i) && isTerminal (at g i)) _ (or-false (not (inSequence g i)) _ (fine-place g clean i h) .1) .0 in
       rw e at both
-
--- ---- a symbol that is named is below n or m
-module _ (g : Grammar) (i : ℕ) (h : i < length g) where
-  pub terminal-counted : isTerminal (at g i) ≡ true → at g i .symbol < terminalCount g
-  unfolding terminalCount countNamed at
-  terminal-counted e =
-      let l : pick (isTerminal (at g i)) (at g i .symbol + 1) 0 ≤ terminalCount g = greatest-above (countNamed true) past g i h in
-      let k : at g i .symbol + 1 ≤ terminalCount g = rw e at l in
-      omega arith
-
-  pub nonterminal-counted : isTerminal (at g i) ≡ false → at g i .symbol < nonterminalCount g
-  unfolding nonterminalCount countNamed at
-  nonterminal-counted e =
-      let l : pick (isTerminal (at g i)) 0 (at g i .symbol + 1) ≤ nonterminalCount g = greatest-above (countNamed false) past g i h in
-      let k : at g i .symbol + 1 ≤ nonterminalCount g = rw e at l in
-      omega arith

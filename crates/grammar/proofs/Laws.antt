@@ -2,15 +2,15 @@
 use Prim.Native.Nat.{ℕ, zero, suc, _+_, _*_, _/_, _≤_, _<_, max}
 use mathlib.Core.Path.{_≡_, refl, sym, ap, _∙_}
 use mathlib.Core.List.{List, map}
-use mathlib.Core.Bool.{Bool, true, false, false≢true}
+use mathlib.Core.Bool.{Bool, true, false}
 use native.Mathlib.Omega.{arith}
 use native.Mathlib.Nat.{add-assoc}
-use native.Mathlib.Decide.{decLe}
-use lib.ListN.{length, getD, drop, List·getD-eq-default}
+use lib.ListN.{length, getD, drop}
 use lib.Seq.{getD-drop}
 use lib.Dec.{eqb}
 use Rattle.base.specs.Lists.{greatest}
 use Rattle.base.proofs.ListLoops.{kept, kept-start, greatest-turn}
+use Rattle.rules.proofs.Laws.{length-records, record-past, not-at-end-within}
 use Rattle.rules.specs.Records.{Record, Grammar, recordAt, recordsOf, records, past, at, isTerminal}
 use Rattle.rules.specs.Grammar.{Symbol, nonterminal, terminal, atEnd, atStart, isBefore, leftOf, leftSideOf, leftSides, productionCount, terminalCount, nonterminalCount}
 use Rattle.grammar.specs.Tests.{countNamed, highestNamed}
@@ -20,11 +20,6 @@ record-dropped : (n : ℕ) (bytes : List ℕ) (i : ℕ) → recordAt (drop n byt
 unfolding recordAt
 record-dropped n bytes i = simp (getD-drop, add-assoc)
 
-length-recordsOf : (k : ℕ) (bytes : List ℕ) → length (recordsOf k bytes) ≡ k
-unfolding recordsOf
-length-recordsOf zero bytes = refl
-length-recordsOf (suc k) bytes = ap suc (length-recordsOf k (drop 8 bytes))
-
 recordsOf-at : (k i : ℕ) (bytes : List ℕ) → i < k → getD (recordsOf k bytes) i past ≡ recordAt bytes (8 * i)
 unfolding recordsOf
 recordsOf-at zero i bytes h = absurd (omega arith)
@@ -33,17 +28,9 @@ recordsOf-at (suc k) (suc i) bytes h =
     let e : 8 + 8 * i ≡ 8 * suc i = omega arith in
     recordsOf-at k i (drop 8 bytes) (omega arith) ∙ record-dropped 8 bytes (8 * i) ∙ ap (recordAt bytes) e
 
-pub length-records : (bytes : List ℕ) → length (records bytes) ≡ length bytes / 8
-unfolding records
-length-records bytes = length-recordsOf (length bytes / 8) bytes
-
 pub record-at : (bytes : List ℕ) (i : ℕ) → 8 * i + 8 ≤ length bytes → at (records bytes) i ≡ recordAt bytes (8 * i)
 unfolding records at
 record-at bytes i h = recordsOf-at (length bytes / 8) i bytes (omega arith)
-
-pub record-past : (g : Grammar) (i : ℕ) → length g ≤ i → at g i ≡ past
-unfolding at
-record-past g i h = List·getD-eq-default g past h
 
 -- ---- items
 pub past-end : (g : Grammar) (n i : ℕ) → n ≡ length g → n ≤ i + 1 → true ≡ atEnd g i
@@ -51,13 +38,7 @@ unfolding atEnd
 past-end g n i e h = let l : length g ≤ i + 1 = omega arith in rw (record-past g (i + 1) l)
 
 pub behind-dot : (bytes : List ℕ) (i : ℕ) → atEnd (records bytes) i ≡ false → 8 * (i + 1) + 8 ≤ length bytes
-behind-dot bytes i f =
-    elim (decLe (8 * (i + 1) + 8) (length bytes)) [
-      | yes h ↦ h
-      | no h ↦ let l = length-records bytes in
-          let q : true ≡ atEnd (records bytes) i = past-end (records bytes) (length (records bytes)) i refl (omega arith) in
-          absurd (false≢true (sym f ∙ sym q))
-    ]
+behind-dot bytes i f = omega (arith, not-at-end-within (records bytes) i f, length-records bytes)
 
 module _ (g : Grammar) (i : ℕ) (b : Bool) (last : b ≡ atEnd g i) where
   pub end-known : (v : Bool) → b ≡ v → atEnd g i ≡ v

@@ -1,6 +1,6 @@
 -- `grammar::records::record_count` meets its contract.
 use borrow.Author.Needs.{needs}
-use Rattle.grammar.proofs.Laws.{length-records}
+use Rattle.rules.proofs.Laws.{length-records}
 use Rattle.grammar.proofs.records.record_count.Statement.{statement}
 use Rattle.grammar.proofs.records.record_count.Tie as tie
 
