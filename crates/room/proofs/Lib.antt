@@ -1,5 +1,6 @@
 pub mod Apart
 pub mod Clearing
+pub mod Lengths
 pub mod Packs
 pub mod Same
 pub mod Views

@@ -1,0 +1,28 @@
+-- The set in a slot after a set was put into a slot. Callers go by these laws, not by how a set is kept.
+use Prim.Native.Nat.{ℕ, _<_}
+use mathlib.Core.Path.{_≡_}
+use mathlib.Core.List.{List}
+use lib.ListN.{length, length-set}
+use lib.Seq.{getD-set-same, getD-set-other, set-getD, set-set}
+use Rattle.lookahead.specs.Sets.{loadSet, storeSet}
+
+module _ (words : List ℕ) (slot s : ℕ) where
+  pub load-stored : slot < length words → loadSet (storeSet slot s words) slot ≡ s
+  unfolding loadSet storeSet
+  load-stored h = getD-set-same words slot s 0 h
+
+  pub load-other : (other : ℕ) → (other ≡ slot → ⊥) → loadSet (storeSet slot s words) other ≡ loadSet words other
+  unfolding loadSet storeSet
+  load-other other ne = getD-set-other words slot other s 0 ne
+
+  pub store-again : (t : ℕ) → storeSet slot t (storeSet slot s words) ≡ storeSet slot t words
+  unfolding storeSet
+  store-again t = set-set words slot s t
+
+  pub length-stored-set : length (storeSet slot s words) ≡ length words
+  unfolding storeSet
+  length-stored-set = simp length-set
+
+pub store-loaded : (words : List ℕ) (slot : ℕ) → storeSet slot (loadSet words slot) words ≡ words
+unfolding loadSet storeSet
+store-loaded words slot = set-getD words slot 0
