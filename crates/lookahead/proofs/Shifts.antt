@@ -32,11 +32,10 @@ pub without-lacked : (s t : ℕ) (b : Bool) → b ≡ has s t → b ≡ false �
 unfolding without
 without-lacked s t b e f = rw (← e, f)
 
-module _ (n p : ℕ) (q : p ≡ single (n + 1)) where
-  pub all-fits : 1 ≤ p
-  unfolding single
-  all-fits = omega (arith, pow-pos (n + 1))
+pub single-positive : (t p : ℕ) → p ≡ single t → 1 ≤ p
+unfolding single
+single-positive t p q = omega (arith, pow-pos t)
 
-  pub all-is : p - 1 ≡ all n
-  unfolding single all
-  all-is = rw q
+pub all-is : (n p : ℕ) → p ≡ single (n + 1) → p - 1 ≡ all n
+unfolding single all
+all-is n p q = rw q
