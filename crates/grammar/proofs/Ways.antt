@@ -8,7 +8,8 @@ use borrow.Author.Tests.{eq-eqb, ne-eqb, lt-ltb, le-ltb, le-leb, lt-leb}
 use Rattle.rules.specs.Limits.{limits}
 use Rattle.rules.specs.Records.{Record, Grammar, at, isTerminal, badRecord, comesBehind, inSequence, outOfSequence}
 use Rattle.rules.specs.Tokens.{TokenSet, has}
-use Rattle.rules.specs.Grammar.{atStart, start, namesStart, sideDerives}
+use Rattle.rules.specs.Grammar.{atStart, start, namesStart, sideDerives, faultAt}
+use Rattle.rules.specs.declared.GrammarRefusal.the-variants.{BadRecord, OutOfSequence}
 use Rattle.grammar.specs.Tests.{countNamed, terminalLeft, uncollected}
 
 -- ---- one more than the symbol of a record of the kind
@@ -82,6 +83,16 @@ module _ (g : Grammar) (i : ℕ) (s : Bool) (follows : s ≡ inSequence g i) whe
       pub out-position : (x : ℕ) → not s ≡ false → t ≡ false → p < 128 → x ≡ at g i .position → ltb 16 x ≡ outOfSequence limits g i
       unfolding outOfSequence limits terminalLeft
       out-position x e f h z = rw (← follows, e, ← left, f, ← production, lt-leb 128 p h, z)
+
+-- ---- 4 before 5 within a record
+module _ (g : Grammar) (i : ℕ) (b : Bool) (bad : b ≡ badRecord limits (at g i)) where
+  pub fault-four : b ≡ true → BadRecord i ≡ faultAt limits g i
+  unfolding faultAt
+  fault-four e = rw (← bad, e)
+
+  pub fault-five : b ≡ false → OutOfSequence i ≡ faultAt limits g i
+  unfolding faultAt
+  fault-five e = rw (← bad, e)
 
 -- ---- refusal 6
 module _ (g : Grammar) (i : ℕ) where

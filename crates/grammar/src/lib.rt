@@ -1,9 +1,9 @@
 // The coded grammar: what stands in its records, and which bytes are one.
 pub mod counts;
-pub mod faults;
+mod faults;
 pub mod items;
-pub mod naming;
-pub mod productive;
+mod naming;
+mod productive;
 pub mod records;
 
 use rules::GrammarAnswer;
