@@ -1,25 +1,18 @@
 -- The laws of the coded grammar's definitions: what the loops of this crate go by.
-use Prim.Native.Nat.{ℕ, zero, suc, _+_, _-_, _*_, _/_, _%_, _^_, _≤_, _<_, max}
+use Prim.Native.Nat.{ℕ, zero, suc, _+_, _*_, _/_, _≤_, _<_, max}
 use mathlib.Core.Path.{_≡_, refl, sym, ap, _∙_}
-use mathlib.Core.List.{List, [], _∷_, map}
+use mathlib.Core.List.{List, map}
 use native.Mathlib.Omega.{arith}
 use native.Mathlib.Nat.{add-assoc}
-use native.Mathlib.Numerals.{add-one}
-use lib.ListN.{length, getD, drop, drop-of-length-le, List·getD-eq-default}
-use lib.Seq.{getD-drop, drop-cons}
-use lib.Pow.{pow-lt}
+use lib.ListN.{length, getD, drop, List·getD-eq-default}
+use lib.Seq.{getD-drop}
 use native.Mathlib.Decide.{decLe}
-use mathlib.Core.Bool.{Bool, true, false, not, false≢true}
-use lib.Dec.{leb}
-use borrow.Author.Tests.{not-true, not-false, lt-ltb, le-ltb, le-leb, lt-leb}
-use Rattle.base.specs.Loops.{firstFrom}
-use Rattle.base.specs.Pick.{pick}
-use Rattle.base.specs.Lists.{greatest, eachOf, foldOver}
-use Rattle.base.proofs.ListLoops.{first-whole, kept, kept-start, kept-fold-turn, kept-each-turn, kept-each-fails, greatest-turn}
-use Rattle.rules.specs.Records.{Record, Grammar, recordAt, recordsOf, records, past, at}
-use Rattle.rules.specs.Tokens.{TokenSet}
-use Rattle.rules.specs.Grammar.{Symbol, collect, allCollected, productive, firstBarren, symbolOf, sideOf, atEnd, atStart, isLeftSideOf, leftOf, leftSideOf, leftSides, productionCount, terminalCount, nonterminalCount}
-use Rattle.grammar.specs.Tests.{countNamed, highestNamed, lacksProduction, collectAt, isCollected, uncollected, isBarren}
+use mathlib.Core.Bool.{Bool, true, false, false≢true}
+use Rattle.base.specs.Lists.{greatest}
+use Rattle.base.proofs.ListLoops.{kept, kept-start, greatest-turn}
+use Rattle.rules.specs.Records.{Record, Grammar, recordAt, recordsOf, records, past, at, isTerminal}
+use Rattle.rules.specs.Grammar.{atEnd, atStart, leftOf, leftSideOf, leftSides, productionCount, terminalCount, nonterminalCount}
+use Rattle.grammar.specs.Tests.{countNamed, highestNamed}
 
 -- ---- records
 record-dropped : (n : ℕ) (bytes : List ℕ) (i : ℕ) → recordAt (drop n bytes) i ≡ recordAt bytes (n + i)
@@ -96,70 +89,20 @@ pub productions-start : (g : Grammar) (n : ℕ) → n ≡ length g → 0 + lengt
 unfolding productionCount
 productions-start g n e = let l = ap length (left-sides g n e) in omega arith
 
--- ---- a nonterminal without production
-pub lacks : (g : Grammar) (a n k : ℕ) → n ≡ length g → k ≡ firstFrom (isLeftSideOf g a) (length g) 0 → leb n k ≡ lacksProduction g a
-unfolding lacksProduction
-lacks g a n k e f =
-    elim (decLe n k) [
-      | yes h ↦ rw (← f, ← e, le-leb n k h, le-ltb k n h)
-      | no h ↦ let l : k < n = omega arith in rw (← f, ← e, lt-leb n k l, lt-ltb k n l)
-    ]
+-- ---- one more than the symbol of a record of the kind
+module _ (r : Record) (b t : Bool) (is : b ≡ isTerminal r) where
+  pub named-terminal : (a : ℕ) → b ≡ true → t ≡ true → a ≡ r .symbol → a + 1 ≡ countNamed t r
+  unfolding countNamed
+  named-terminal a e f h = rw (f, ← is, e, h)
 
--- ---- the symbols behind a dot, up to the next left side; k is the record at hand and n the number of records
-module _ (g : Grammar) (holds : Symbol → Bool) (k n : ℕ) (t : Bool) (size : n ≡ length g) where
-  side-more : k < n → sideOf (drop k g) ≡ pick (atStart g k) [] (symbolOf (at g k) ∷ sideOf (drop (k + 1) g))
-  unfolding sideOf atStart
-  side-more h = let l : k < length g = omega arith in rw (add-one, drop-cons g k past l)
+  pub named-no-terminal : b ≡ false → t ≡ true → 0 ≡ countNamed t r
+  unfolding countNamed
+  named-no-terminal e f = rw (f, ← is, e)
 
-  pub side-turn : (b d : Bool) → k < n → eachOf holds (sideOf (drop k g)) ≡ t → b ≡ atStart g k → b ≡ false → d ≡ holds (symbolOf (at g k)) → not d ≡ false → eachOf holds (sideOf (drop (k + 1) g)) ≡ t
-  unfolding eachOf
-  side-turn b d h e p f q x =
-      let s : atStart g k ≡ false = sym p ∙ f in
-      let z : holds (symbolOf (at g k)) ≡ true = sym q ∙ not-false d x in
-      rw (side-more h, s, z) at e
+  pub named-nonterminal : (a : ℕ) → b ≡ false → t ≡ false → a ≡ r .symbol → a + 1 ≡ countNamed t r
+  unfolding countNamed
+  named-nonterminal a e f h = rw (f, ← is, e, h)
 
-  pub side-fails : (b d : Bool) → k < n → eachOf holds (sideOf (drop k g)) ≡ t → b ≡ atStart g k → b ≡ false → d ≡ holds (symbolOf (at g k)) → not d ≡ true → false ≡ t
-  unfolding eachOf
-  side-fails b d h e p f q x =
-      let s : atStart g k ≡ false = sym p ∙ f in
-      let z : holds (symbolOf (at g k)) ≡ false = sym q ∙ not-true d x in
-      rw (side-more h, s, z) at e
-
-  pub side-ends : (b : Bool) → k < n → eachOf holds (sideOf (drop k g)) ≡ t → b ≡ atStart g k → b ≡ true → true ≡ t
-  unfolding eachOf
-  side-ends b h e p f = let s : atStart g k ≡ true = sym p ∙ f in rw (side-more h, s) at e
-
-  pub side-over : n ≤ k → eachOf holds (sideOf (drop k g)) ≡ t → true ≡ t
-  unfolding eachOf sideOf
-  side-over h e = let l : length g ≤ k = omega arith in rw (drop-of-length-le g l) at e
-
--- ---- rounds over the productions
-module _ (g : Grammar) (n : ℕ) where
-  pub round-start : (a : TokenSet) → n ≡ length g → foldOver (collect g) (kept (atStart g) n 0) a ≡ foldOver (collect g) (leftSides g) a
-  round-start a e = rw (left-sides g n e)
-
-  pub round-turn : (i : ℕ) (a t b : TokenSet) → i < n → foldOver (collect g) (kept (atStart g) n i) a ≡ t → b ≡ collectAt g i a → foldOver (collect g) (kept (atStart g) n (i + 1)) b ≡ t
-  unfolding collectAt
-  round-turn i a t b = kept-fold-turn (atStart g) (collect g) n i a t b
-
-  module _ (found : TokenSet) where
-    pub collected-start : n ≡ length g → eachOf (isCollected g found) (kept (atStart g) n 0) ≡ allCollected g found
-    unfolding isCollected allCollected
-    collected-start e = rw (left-sides g n e)
-
-    module _ (i : ℕ) (t : Bool) where
-      pub collected-turn : (b : Bool) → i < n → eachOf (isCollected g found) (kept (atStart g) n i) ≡ t → b ≡ uncollected g found i → b ≡ false → eachOf (isCollected g found) (kept (atStart g) n (i + 1)) ≡ t
-      unfolding uncollected
-      collected-turn = kept-each-turn (atStart g) (isCollected g found) n i t
-
-      pub collected-fails : (b : Bool) → i < n → eachOf (isCollected g found) (kept (atStart g) n i) ≡ t → b ≡ uncollected g found i → b ≡ true → false ≡ t
-      unfolding uncollected
-      collected-fails = kept-each-fails (atStart g) (isCollected g found) n i t
-
-pub barren-start : (g : Grammar) (m : ℕ) (found : TokenSet) → m ≡ nonterminalCount g → found ≡ productive g → firstFrom (isBarren found) (m - 0) 0 ≡ firstBarren g
-unfolding firstBarren isBarren
-barren-start g m found e f = first-whole (isBarren found) m (nonterminalCount g) e ∙ ap (λ (s : TokenSet). firstFrom (isBarren s) (nonterminalCount g) 0) f
-
--- ---- a set of numbers below 64 in one word
-pub one-shifted : (t : ℕ) → t < 64 → 1 * 2 ^ t % 2 ^ 64 ≡ 2 ^ t
-one-shifted t h = let p : 2 ^ t < 2 ^ 64 = pow-lt h in omega arith
+  pub named-no-nonterminal : b ≡ true → t ≡ false → 0 ≡ countNamed t r
+  unfolding countNamed
+  named-no-nonterminal e f = rw (f, ← is, e)

@@ -1,6 +1,6 @@
 -- `grammar::counts::count_named` meets its contract.
 use borrow.Author.Needs.{needs}
-use Rattle.grammar.proofs.Ways.{named-terminal, named-no-terminal, named-nonterminal, named-no-nonterminal}
+use Rattle.grammar.proofs.Laws.{named-terminal, named-no-terminal, named-nonterminal, named-no-nonterminal}
 use Rattle.grammar.proofs.counts.count_named.Statement.{statement}
 use Rattle.grammar.proofs.counts.count_named.Tie as tie
 
