@@ -1,0 +1,13 @@
+-- `grammar::records::kind` meets its contract.
+use borrow.Author.Needs.{needs}
+use Rattle.rules.specs.Records.{recordAt}
+use Rattle.grammar.proofs.Laws.{record-at}
+use Rattle.grammar.proofs.records.kind.Statement.{statement}
+use Rattle.grammar.proofs.records.kind.Tie as tie
+
+returns : tie.Need-returns
+unfolding recordAt
+returns c = search (needs, record-at)
+
+pub kind-spec : {M : Type 1} → statement M
+kind-spec = tie.close (tie.spec (λ c. search needs) (λ c. search needs) (λ c. search needs) (λ c κs. search needs) returns)

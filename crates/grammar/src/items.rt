@@ -1,0 +1,80 @@
+// The items of the grammar: an item is a record, and the dot stands right behind it.
+ghost use mathlib.Core.Path.{_≡_};
+ghost use mathlib.Core.Bool.{false};
+ghost use Prim.Native.Nat.{_+_, _*_, _≤_, _<_};
+ghost use lib.ListN.{length};
+ghost use Rattle.rules.specs.Records.{at, records, isTerminal};
+ghost use Rattle.rules.specs.Grammar.{atStart, atEnd, leftOf, leftSideOf};
+ghost use Rattle.grammar.specs.Tests.{beginsProduction};
+
+// The dot of item i is at the start: record i is a left side.
+pub fn at_start(g: &[u8], i: usize) -> bool
+    requires { ⌜ 8 * i + 8 ≤ length (now g) ⌝ }
+    ensures { λ r. ⌜ r ≡ atStart (records (now (g .entry))) i ⌝ }
+{
+    crate::records::position(g, i) == 0
+}
+
+// The dot of item i is at the end: no symbol stands behind it.
+pub fn at_end(g: &[u8], i: usize) -> bool
+    requires { ⌜ 8 * i + 8 ≤ length (now g) ⌝ }
+    ensures { λ r. ⌜ r ≡ atEnd (records (now (g .entry))) i ⌝ }
+{
+    if crate::records::record_count(g) <= i + 1 {
+        return true;
+    }
+    crate::records::position(g, i + 1) == 0
+}
+
+// The symbol behind the dot of item i is a terminal.
+pub fn terminal_behind(g: &[u8], i: usize) -> bool
+    requires { ⌜ atEnd (records (now g)) i ≡ false ⌝ }
+    ensures { λ r. ⌜ r ≡ isTerminal (at (records (now (g .entry))) (i + 1)) ⌝ }
+{
+    crate::records::is_terminal(g, i + 1)
+}
+
+// The symbol behind the dot of item i.
+pub fn symbol_behind(g: &[u8], i: usize) -> usize
+    requires { ⌜ atEnd (records (now g)) i ≡ false ⌝ }
+    ensures { λ r. ⌜ (r ≡ at (records (now (g .entry))) (i + 1) .symbol) × (r < 65536) ⌝ }
+{
+    crate::records::symbol(g, i + 1)
+}
+
+// Record i is the left side of production p.
+fn is_left_side_of_production(g: &[u8], p: usize, i: usize) -> bool
+    requires { ⌜ 8 * i + 8 ≤ length (now g) ⌝ }
+    ensures { λ r. ⌜ r ≡ beginsProduction (records (now (g .entry))) p i ⌝ }
+{
+    if at_start(g, i) {
+        return crate::records::production(g, i) == p;
+    }
+    false
+}
+
+// The left-side record of production p, or the number of records if there is none.
+pub fn left_side_of(g: &[u8], p: usize) -> usize
+    ensures { λ r. ⌜ r ≡ leftSideOf (records (now (g .entry))) p ⌝ }
+{
+    let n = crate::records::record_count(g);
+    for i in 0..n {
+        if is_left_side_of_production(g, p, i) {
+            return i;
+        }
+    }
+    n
+}
+
+// The nonterminal on the left of item i's production.
+pub fn left_of(g: &[u8], i: usize) -> usize
+    requires { ⌜ 8 * i + 8 ≤ length (now g) ⌝ }
+    ensures { λ r. ⌜ (r ≡ leftOf (records (now (g .entry))) i) × (r < 65536) ⌝ }
+{
+    let p = crate::records::production(g, i);
+    let k = left_side_of(g, p);
+    if k < crate::records::record_count(g) {
+        return crate::records::symbol(g, k);
+    }
+    0
+}

@@ -1,0 +1,90 @@
+-- What the loops of this crate go by.
+use Prim.Native.Nat.{ℕ, _+_, _-_, _*_, _%_, _^_, _≤_, _<_}
+use mathlib.Core.Path.{_≡_, sym, ap, _∙_}
+use mathlib.Core.List.{[], _∷_}
+use native.Mathlib.Omega.{arith}
+use native.Mathlib.Numerals.{add-one}
+use lib.ListN.{length, drop, drop-of-length-le}
+use lib.Seq.{drop-cons}
+use lib.Pow.{pow-lt}
+use native.Mathlib.Decide.{decLe}
+use mathlib.Core.Bool.{Bool, true, false, not}
+use lib.Dec.{leb}
+use borrow.Author.Tests.{not-true, not-false, lt-ltb, le-ltb, le-leb, lt-leb}
+use Rattle.base.specs.Loops.{firstFrom}
+use Rattle.base.specs.Pick.{pick}
+use Rattle.base.specs.Lists.{eachOf, foldOver}
+use Rattle.base.proofs.ListLoops.{first-whole, kept, kept-fold-turn, kept-each-turn, kept-each-fails}
+use Rattle.grammar.proofs.Laws.{left-sides}
+use Rattle.rules.specs.Records.{Grammar, past, at}
+use Rattle.rules.specs.Tokens.{TokenSet}
+use Rattle.rules.specs.Grammar.{Symbol, collect, allCollected, productive, firstBarren, symbolOf, sideOf, atStart, isLeftSideOf, leftSides, nonterminalCount}
+use Rattle.grammar_check.specs.Tests.{lacksProduction, collectAt, isCollected, uncollected, isBarren}
+
+-- ---- a nonterminal without production
+pub lacks : (g : Grammar) (a n k : ℕ) → n ≡ length g → k ≡ firstFrom (isLeftSideOf g a) (length g) 0 → leb n k ≡ lacksProduction g a
+unfolding lacksProduction
+lacks g a n k e f =
+    elim (decLe n k) [
+      | yes h ↦ rw (← f, ← e, le-leb n k h, le-ltb k n h)
+      | no h ↦ let l : k < n = omega arith in rw (← f, ← e, lt-leb n k l, lt-ltb k n l)
+    ]
+
+-- ---- the symbols behind a dot, up to the next left side; k is the record at hand and n the number of records
+module _ (g : Grammar) (holds : Symbol → Bool) (k n : ℕ) (t : Bool) (size : n ≡ length g) where
+  side-more : k < n → sideOf (drop k g) ≡ pick (atStart g k) [] (symbolOf (at g k) ∷ sideOf (drop (k + 1) g))
+  unfolding sideOf atStart
+  side-more h = let l : k < length g = omega arith in rw (add-one, drop-cons g k past l)
+
+  pub side-turn : (b d : Bool) → k < n → eachOf holds (sideOf (drop k g)) ≡ t → b ≡ atStart g k → b ≡ false → d ≡ holds (symbolOf (at g k)) → not d ≡ false → eachOf holds (sideOf (drop (k + 1) g)) ≡ t
+  unfolding eachOf
+  side-turn b d h e p f q x =
+      let s : atStart g k ≡ false = sym p ∙ f in
+      let z : holds (symbolOf (at g k)) ≡ true = sym q ∙ not-false d x in
+      rw (side-more h, s, z) at e
+
+  pub side-fails : (b d : Bool) → k < n → eachOf holds (sideOf (drop k g)) ≡ t → b ≡ atStart g k → b ≡ false → d ≡ holds (symbolOf (at g k)) → not d ≡ true → false ≡ t
+  unfolding eachOf
+  side-fails b d h e p f q x =
+      let s : atStart g k ≡ false = sym p ∙ f in
+      let z : holds (symbolOf (at g k)) ≡ false = sym q ∙ not-true d x in
+      rw (side-more h, s, z) at e
+
+  pub side-ends : (b : Bool) → k < n → eachOf holds (sideOf (drop k g)) ≡ t → b ≡ atStart g k → b ≡ true → true ≡ t
+  unfolding eachOf
+  side-ends b h e p f = let s : atStart g k ≡ true = sym p ∙ f in rw (side-more h, s) at e
+
+  pub side-over : n ≤ k → eachOf holds (sideOf (drop k g)) ≡ t → true ≡ t
+  unfolding eachOf sideOf
+  side-over h e = let l : length g ≤ k = omega arith in rw (drop-of-length-le g l) at e
+
+-- ---- rounds over the productions
+module _ (g : Grammar) (n : ℕ) where
+  pub round-start : (a : TokenSet) → n ≡ length g → foldOver (collect g) (kept (atStart g) n 0) a ≡ foldOver (collect g) (leftSides g) a
+  round-start a e = rw (left-sides g n e)
+
+  pub round-turn : (i : ℕ) (a t b : TokenSet) → i < n → foldOver (collect g) (kept (atStart g) n i) a ≡ t → b ≡ collectAt g i a → foldOver (collect g) (kept (atStart g) n (i + 1)) b ≡ t
+  unfolding collectAt
+  round-turn i a t b = kept-fold-turn (atStart g) (collect g) n i a t b
+
+  module _ (found : TokenSet) where
+    pub collected-start : n ≡ length g → eachOf (isCollected g found) (kept (atStart g) n 0) ≡ allCollected g found
+    unfolding isCollected allCollected
+    collected-start e = rw (left-sides g n e)
+
+    module _ (i : ℕ) (t : Bool) where
+      pub collected-turn : (b : Bool) → i < n → eachOf (isCollected g found) (kept (atStart g) n i) ≡ t → b ≡ uncollected g found i → b ≡ false → eachOf (isCollected g found) (kept (atStart g) n (i + 1)) ≡ t
+      unfolding uncollected
+      collected-turn = kept-each-turn (atStart g) (isCollected g found) n i t
+
+      pub collected-fails : (b : Bool) → i < n → eachOf (isCollected g found) (kept (atStart g) n i) ≡ t → b ≡ uncollected g found i → b ≡ true → false ≡ t
+      unfolding uncollected
+      collected-fails = kept-each-fails (atStart g) (isCollected g found) n i t
+
+pub barren-start : (g : Grammar) (m : ℕ) (found : TokenSet) → m ≡ nonterminalCount g → found ≡ productive g → firstFrom (isBarren found) (m - 0) 0 ≡ firstBarren g
+unfolding firstBarren isBarren
+barren-start g m found e f = first-whole (isBarren found) m (nonterminalCount g) e ∙ ap (λ (s : TokenSet). firstFrom (isBarren s) (nonterminalCount g) 0) f
+
+-- ---- a set of numbers below 64 in one word
+pub one-shifted : (t : ℕ) → t < 64 → 1 * 2 ^ t % 2 ^ 64 ≡ 2 ^ t
+one-shifted t h = let p : 2 ^ t < 2 ^ 64 = pow-lt h in omega arith

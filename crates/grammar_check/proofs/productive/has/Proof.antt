@@ -1,0 +1,13 @@
+-- `grammar_check::productive::has` meets its contract.
+use mathlib.Core.Path.{refl}
+use borrow.Author.Needs.{needs}
+use Rattle.rules.specs.Tokens.{has}
+use Rattle.grammar_check.proofs.productive.has.Statement.{statement}
+use Rattle.grammar_check.proofs.productive.has.Tie as tie
+
+returns : tie.Need-returns
+unfolding has
+returns c = refl
+
+pub has-spec : {M : Type 1} → statement M
+has-spec = tie.close (tie.spec (λ c. search needs) returns)

@@ -1,0 +1,104 @@
+// Runs the check of a grammar on the cases of standard input and writes a line for each: its name, then `coded`, or `refused` with
+// document 01's number and place. tools/grammar_reader.py makes the cases and the lines that are expected.
+//
+// A case is one byte, the length of its name; the name; two bytes, little-endian, the length of the grammar; the grammar.
+use libc::STDIN_FILENO;
+use libc::STDOUT_FILENO;
+use rules::GrammarAnswer;
+use rules::GrammarRefusal;
+ghost use mathlib.Core.Path.{_≡_};
+ghost use Prim.Native.Nat.{_<_, _≤_};
+ghost use lib.ListN.{length};
+ghost use Rattle.rules.specs.Answers.{Said, grammarRefusalSaid};
+
+// Document 01's number and place of a refusal.
+struct Said {
+    number: u64,
+    place: usize,
+}
+
+fn said(why: GrammarRefusal) -> Said
+    ensures { λ r. ⌜ grammarRefusalSaid why ≡ Said.refused (r .number) (r .place) ⌝ }
+{
+    match why {
+        GrammarRefusal::Length => Said {
+            number: 3,
+            place: 0,
+        },
+        GrammarRefusal::BadRecord(record) => Said {
+            number: 4,
+            place: record,
+        },
+        GrammarRefusal::OutOfSequence(record) => Said {
+            number: 5,
+            place: record,
+        },
+        GrammarRefusal::StartAgain(production) => Said {
+            number: 6,
+            place: production,
+        },
+        GrammarRefusal::NoProduction(nonterminal) => Said {
+            number: 7,
+            place: nonterminal,
+        },
+        GrammarRefusal::NoString(nonterminal) => Said {
+            number: 8,
+            place: nonterminal,
+        },
+    }
+}
+
+// Writes an answer, with what stands before it on its line.
+fn write_answer(answer: GrammarAnswer) {
+    match answer {
+        GrammarAnswer::Coded => {
+            io::write_all(STDOUT_FILENO, b": coded\n");
+        }
+        GrammarAnswer::Refused(why) => {
+            let s = said(why);
+            io::write_all(STDOUT_FILENO, b": refused ");
+            io::print_decimal(STDOUT_FILENO, s.number);
+            io::write_all(STDOUT_FILENO, b" ");
+            io::print_decimal(STDOUT_FILENO, s.place as u64);
+            io::write_all(STDOUT_FILENO, b"\n");
+        }
+    }
+}
+
+// Runs the case that begins at a byte and gives the place of the next; the list's end if the case is cut short.
+fn run_case(cases: &[u8], at: usize) -> usize
+    requires { ⌜ at < length (now cases) ⌝ }
+    ensures { λ r. ⌜ (at < r) × (r ≤ length (now (cases .entry))) ⌝ }
+{
+    let name = at + 1;
+    let left = cases.len() - name;
+    let named = base::wide(cases[at]) as usize;
+    if left < named + 2 {
+        io::write_all(STDOUT_FILENO, b"cut short\n");
+        return cases.len();
+    }
+    let size = name + named;
+    let grammar = size + 2;
+    let long = (base::wide(cases[size]) + 256 * base::wide(cases[size + 1])) as usize;
+    if cases.len() - grammar < long {
+        io::write_all(STDOUT_FILENO, b"cut short\n");
+        return cases.len();
+    }
+    let next = grammar + long;
+    io::write_all(STDOUT_FILENO, &cases[name..size]);
+    write_answer(grammar_check::check_grammar(&cases[grammar..next]));
+    next
+}
+
+fn run_cases(cases: &[u8]) {
+    let mut at = 0;
+    while at < cases.len() {
+        at = run_case(cases, at);
+    }
+}
+
+fn main() {
+    let mut space = io::large_buffer();
+    let n = io::read_full(STDIN_FILENO, &mut space);
+    run_cases(&space[..n]);
+}
