@@ -15,6 +15,10 @@ storeSet slot s words = set words slot s
 abbrev pub setAt : Room → ℕ → TokenSet
 setAt r slot = loadSet (r .sets) slot
 
+-- the room with other words in its area of sets
+abbrev pub withSets : List ℕ → Room → Room
+withSets words r = record { entries = r .entries; firstEntries = r .firstEntries; parents = r .parents; entered = r .entered; successors = r .successors; origins = r .origins; heads = r .heads; walked = r .walked; actions = r .actions; sets = words; rest = r .rest }
+
 -- the room with s in a slot
 abbrev pub putSet : ℕ → TokenSet → Room → Room
-putSet slot s r = record { entries = r .entries; firstEntries = r .firstEntries; parents = r .parents; entered = r .entered; successors = r .successors; origins = r .origins; heads = r .heads; walked = r .walked; actions = r .actions; sets = storeSet slot s (r .sets); rest = r .rest }
+putSet slot s r = withSets (storeSet slot s (r .sets)) r

@@ -1,0 +1,4 @@
+pub mod Joins
+pub mod Loads
+pub mod Named
+pub mod Walks
