@@ -1,3 +1,4 @@
+pub mod Begins
 pub mod Joins
 pub mod Loads
 pub mod Named

@@ -20,11 +20,9 @@ firstsIn g r = loads 0 (nonterminalCount g) (r .sets)
 
 -- ---- what stands behind a dot: the terminals that can begin it, and whether it derives the empty string
 unfoldable pub beginning : ℕ → Sets → List Symbol → TokenSet
-unfolding first0 without
 beginning n sets xs = without (first0 n sets xs) n
 
 unfoldable pub mayBeEmpty : ℕ → Sets → List Symbol → Bool
-unfolding first0 has
 mayBeEmpty n sets xs = has (first0 n sets xs) n
 
 -- ---- one symbol on the way along them: what was collected with what can begin it, and whether the symbols behind it count too

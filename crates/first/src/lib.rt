@@ -1,2 +1,2 @@
 // FIRST: first/mod.rs. The set of each nonterminal lies in its slot of the work room.
-// pub mod suffix;
+pub mod suffix;
