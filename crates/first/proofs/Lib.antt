@@ -1,4 +1,6 @@
 pub mod Begins
+pub mod Frames
+pub mod Growth
 pub mod Joins
 pub mod Loads
 pub mod Named
