@@ -11,14 +11,14 @@ use Rattle.rules.specs.Limits.{limits}
 use Rattle.rules.specs.Records.{Grammar, at, records}
 use Rattle.rules.specs.Tokens.{TokenSet, join, within}
 use Rattle.rules.specs.Grammar.{atStart, symbolsBehind, nonterminalCount, firstFault}
-use Rattle.rules.specs.First.{Sets, setOf, first0, addFirst}
+use Rattle.rules.specs.First.{Sets, setOf, first0, addFirst, firstSets}
 use Rattle.room.specs.Areas.{Room, view}
 use Rattle.room.proofs.Lengths.{view-lengths}
 use Rattle.lookahead.specs.Sets.{loadSet, storeSet, withSets, setAt, putSet}
 use Rattle.lookahead.proofs.Slots.{put-there, put-elsewhere, length-stored-set}
 use Rattle.grammar.proofs.Laws.{length-records}
 use Rattle.grammar.proofs.Coded.{nonterminal-count-below}
-use Rattle.first.specs.Firsts.{loads, firstsIn, hasFirst, OnlyFirsts}
+use Rattle.first.specs.Firsts.{loads, firstsIn, hasFirst, OnlyFirsts, FirstsFound}
 use Rattle.first.proofs.Loads.{loads-at, loads-stored}
 use Rattle.first.proofs.Named.{nonterminal-named, left-side-nonterminal}
 use Rattle.first.proofs.Growth.{add-first-is}
@@ -93,3 +93,15 @@ module _ (bytes : List ℕ) (n i a slot own : ℕ) (w : List ℕ) (p : Room) (cl
   pub first-new : (r : Bool) → r ≡ not (within (setAt p slot) (setAt p own)) → r ≡ not (hasFirst (records bytes) n (firstsIn (records bytes) (view w)) i)
   unfolding hasFirst
   first-new r e = rw (collected-there, own-there) at e
+
+-- ---- the end: the slot at hand is cleared
+pub firsts-found : (g : Grammar) (v q : Room) (w : List ℕ) (hand size : ℕ) → firstFault limits g ≡ length g → 8192 ≤ size → length w ≡ size → OnlyFirsts g v (view w) → firstsIn g (view w) ≡ firstSets g
+    → hand ≡ 64 + 0 → q ≡ putSet hand 0 (view w) → FirstsFound g v q
+firsts-found g v q w hand size clean fits same only found e put =
+    let l = view-lengths w (omega arith) .sets-length in
+    let z : hand ≡ 64 = omega arith in
+    record {
+      only = only-both g v (view w) q only (only-put g (view w) q hand 0 (inr z) put);
+      found = firsts-kept (view w) q hand 0 put g clean (omega arith) ∙ found;
+      cleared = ap (setAt q) (sym z) ∙ put-there (view w) q hand 0 put (omega arith);
+    }

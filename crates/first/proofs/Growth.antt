@@ -4,7 +4,8 @@ use mathlib.Core.Path.{_≡_, refl, sym, ap, _∙_}
 use mathlib.Core.Bool.{Bool, true, false, not, true≢false, false≢true}
 use mathlib.Core.List.{List, [], _∷_}
 use native.Mathlib.Omega.{arith}
-use lib.ListN.{length, set}
+use native.Mathlib.Nat.{sub-zero, mul-le-mul}
+use lib.ListN.{length, set, replicate}
 use lib.Seq.{set-getD}
 use borrow.Author.Tests.{not-true, not-false}
 use Rattle.base.specs.Pick.{pick}
@@ -13,8 +14,8 @@ use Rattle.base.specs.Lists.{eachOf, foldOver}
 use Rattle.base.proofs.ListLoops.{kept, kept-each-turn, kept-each-fails, kept-each-end, until-turn, until-end}
 use Rattle.rules.specs.Records.{Grammar, at}
 use Rattle.rules.specs.Tokens.{TokenSet, join, within}
-use Rattle.rules.specs.Grammar.{atStart, leftSides, symbolsBehind}
-use Rattle.rules.specs.First.{Sets, setOf, first0, addFirst, firstSettled}
+use Rattle.rules.specs.Grammar.{atStart, leftSides, symbolsBehind, terminalCount, nonterminalCount}
+use Rattle.rules.specs.First.{Sets, setOf, first0, addFirst, firstSettled, firstSets}
 use Rattle.sets.proofs.Laws.{join-within}
 use Rattle.grammar.proofs.Laws.{left-sides}
 use Rattle.first.specs.Firsts.{hasFirst}
@@ -85,7 +86,7 @@ module _ (g : Grammar) (n : ℕ) where
             rw (p, f, z) whole
         by-changed false f false z =
             let holds : eachOf (hasFirst g n sets) (kept (atStart g) count (i + 1)) ≡ eachOf (hasFirst g n sets) (kept (atStart g) count i) =
-                kept-each-turn (atStart g) (hasFirst g n sets) count i _ new h refl says z in
+            kept-each-turn (atStart g) (hasFirst g n sets) count i _ new h refl says z in
             rw (p, f, z, unchanged z, holds) (rw f at e)
 
   pub changed-end : (count i : ℕ) (sets : Sets) (changed t : Bool) → count ≤ i → pick changed true (not (eachOf (hasFirst g n sets) (kept (atStart g) count i))) ≡ t → changed ≡ t
@@ -102,3 +103,18 @@ module _ (g : Grammar) (n : ℕ) where
     rounds-stop z =
         let settled : firstSettled g n sets ≡ true = not-false (firstSettled g n sets) (sym says ∙ not-true new z) in
         step ∙ round-rests sets settled ∙ until-end (firstSettled g n) (foldOver (addFirst g n) (leftSides g)) bound turn sets t (firstSettled g n sets) e refl settled
+
+-- ---- all rounds
+firsts-are : (g : Grammar) → firstSets g ≡ until (firstSettled g (terminalCount g)) (foldOver (addFirst g (terminalCount g)) (leftSides g)) (nonterminalCount g * (terminalCount g + 1)) (replicate (nonterminalCount g) 0)
+unfolding firstSets
+firsts-are g = refl
+
+pub rounds-start : (g : Grammar) (n m : ℕ) (sets : Sets) → n ≡ terminalCount g → m ≡ nonterminalCount g → sets ≡ replicate m 0
+    → until (firstSettled g n) (foldOver (addFirst g n) (leftSides g)) (m * (n + 1) - 0) sets ≡ firstSets g
+rounds-start g n m sets en em es = rw (sub-zero, es, en, em) (sym (firsts-are g))
+
+pub rounds-fit : (m n : ℕ) → m ≤ 64 → n ≤ 62 → m * (n + 1) ≤ 4032
+rounds-fit m n h l =
+    let k : n + 1 ≤ 63 = omega arith in
+    let p : m * (n + 1) ≤ 64 * 63 = mul-le-mul h k in
+    omega arith

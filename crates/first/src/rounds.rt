@@ -11,7 +11,7 @@ ghost use Rattle.rules.specs.Grammar.{atStart, leftSides, terminalCount, nonter
 ghost use Rattle.rules.specs.First.{addFirst, firstSettled, firstSets};
 ghost use Rattle.room.specs.Areas.{view};
 ghost use Rattle.first.specs.Firsts.{firstsIn, hasFirst, OnlyFirsts, FirstsFound};
-
+use super::suffix::first0;
 use grammar::items::at_start;
 use grammar::records::record_count;
 use grammar::records::symbol;
@@ -19,7 +19,6 @@ use lookahead::clear_set;
 use lookahead::join_into;
 use room::slots::closure_slot;
 use room::slots::first_slot;
-use super::suffix::first0;
 
 // The left side of record i's production gets what begins its right side; says whether it lacked some of it.
 fn add_first(g: &[u8], n: usize, i: usize, work: &mut [u64]) -> bool
@@ -73,4 +72,31 @@ fn round(g: &[u8], n: usize, work: &mut [u64]) -> bool
         changed = either(changed, new);
     }
     changed
+}
+
+// Rounds until one finds nothing that is lacking, at most m (n + 1) of them.
+fn rounds(g: &[u8], n: usize, m: usize, work: &mut [u64])
+    requires { ⌜ (firstFault limits (records (now g)) ≡ length (records (now g))) × (n ≤ 62) × (n ≡ terminalCount (records (now g))) × (m ≤ 64) × (m ≡ nonterminalCount (records (now g))) ⌝ }
+    requires { ⌜ (8192 ≤ length (now work)) × (firstsIn (records (now g)) (view (now work)) ≡ replicate m 0) ⌝ }
+    ensures { λ _. ⌜ firstsIn (records (now (g .entry))) (view (now (work .exit))) ≡ firstSets (records (now (g .entry))) ⌝ }
+    ensures { λ _. ⌜ OnlyFirsts (records (now (g .entry))) (view (now (work .entry))) (view (now (work .exit))) ⌝ }
+{
+    let bound = m * (n + 1);
+    for turn in 0..bound {
+        if !round(g, n, work) {
+            return;
+        }
+    }
+}
+
+// FIRST of every nonterminal, into its slot, which was empty. The first slot of the closure is left empty.
+// n and m are the grammar's numbers of terminals and nonterminals. first/mod.rs: FirstSets::new
+pub fn first_sets(g: &[u8], n: usize, m: usize, work: &mut [u64])
+    requires { ⌜ (firstFault limits (records (now g)) ≡ length (records (now g))) × (n ≤ 62) × (n ≡ terminalCount (records (now g))) × (m ≤ 64) × (m ≡ nonterminalCount (records (now g))) ⌝ }
+    requires { ⌜ (8192 ≤ length (now work)) × (firstsIn (records (now g)) (view (now work)) ≡ replicate m 0) ⌝ }
+    ensures { λ _. ⌜ FirstsFound (records (now (g .entry))) (view (now (work .entry))) (view (now (work .exit))) ⌝ }
+{
+    rounds(g, n, m, work);
+    let hand = closure_slot(0);
+    clear_set(work, hand);
 }
