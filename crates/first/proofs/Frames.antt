@@ -5,7 +5,8 @@ use mathlib.Core.Logic.{_⊎_, inl, inr, ⊎-elim}
 use mathlib.Core.Bool.{Bool, true, false, not}
 use mathlib.Core.List.{List, []}
 use native.Mathlib.Omega.{arith}
-use lib.ListN.{length}
+use native.Mathlib.Decide.{ℕ-discrete, decLe}
+use lib.ListN.{length, getD}
 use Rattle.base.specs.Pick.{pick}
 use Rattle.rules.specs.Limits.{limits}
 use Rattle.rules.specs.Records.{Grammar, at, records}
@@ -15,7 +16,7 @@ use Rattle.rules.specs.First.{Sets, setOf, first0, addFirst, firstSets}
 use Rattle.room.specs.Areas.{Room, view}
 use Rattle.room.proofs.Lengths.{view-lengths}
 use Rattle.lookahead.specs.Sets.{loadSet, storeSet, withSets, setAt, putSet}
-use Rattle.lookahead.proofs.Slots.{put-there, put-elsewhere, length-stored-set}
+use Rattle.lookahead.proofs.Slots.{same-words, put-there, put-elsewhere, length-stored-set}
 use Rattle.grammar.proofs.Laws.{length-records}
 use Rattle.grammar.proofs.Coded.{nonterminal-count-below}
 use Rattle.first.specs.Firsts.{loads, firstsIn, hasFirst, OnlyFirsts, FirstsFound}
@@ -105,3 +106,25 @@ firsts-found g v q w hand size clean fits same only found e put =
       found = firsts-kept (view w) q hand 0 put g clean (omega arith) ∙ found;
       cleared = ap (setAt q) (sym z) ∙ put-there (view w) q hand 0 put (omega arith);
     }
+
+-- ---- no second room meets the promise
+module _ (g : Grammar) (v p q : Room) (one : FirstsFound g v p) (two : FirstsFound g v q) where
+  same-slot : (slot : ℕ) → setAt p slot ≡ setAt q slot
+  same-slot slot = elim (decLe (nonterminalCount g) slot) [
+    | yes h ↦ (elim (ℕ-discrete slot 64) [
+        | yes e ↦ rw e (one .cleared ∙ sym (two .cleared))
+        | no ne ↦ one .only .slots slot h ne ∙ sym (two .only .slots slot h ne)
+      ])
+    | no h ↦
+        let l : slot < nonterminalCount g = omega arith in
+        let z : 0 + slot ≡ slot = omega arith in
+        ap (setAt p) (sym z) ∙ sym (loads-at 0 (nonterminalCount g) slot (p .sets) l)
+        ∙ ap (λ (sets : Sets). getD sets slot 0) (one .found ∙ sym (two .found))
+        ∙ loads-at 0 (nonterminalCount g) slot (q .sets) l ∙ ap (setAt q) z
+  ]
+
+  pub firsts-unique : p ≡ q
+  firsts-unique =
+      let others : withSets [] p ≡ withSets [] q = one .only .others ∙ sym (two .only .others) in
+      let words : p .sets ≡ q .sets = same-words (p .sets) (q .sets) (one .only .words ∙ sym (two .only .words)) same-slot in
+      ap (withSets (p .sets)) others ∙ ap (λ (l : List ℕ). withSets l q) words

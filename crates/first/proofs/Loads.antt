@@ -3,11 +3,15 @@ use Prim.Native.Nat.{ℕ, zero, suc, _+_, _<_, _≤_}
 use mathlib.Core.Path.{_≡_, refl, sym, ap, ap₂, _∙_}
 use mathlib.Core.List.{List, [], _∷_}
 use native.Mathlib.Omega.{arith}
-use lib.ListN.{length, getD, set}
+use lib.ListN.{length, getD, set, replicate}
+use Rattle.base.specs.Fill.{zeros}
+use Rattle.rules.specs.Records.{Grammar}
+use Rattle.rules.specs.Grammar.{nonterminalCount}
+use Rattle.room.specs.Areas.{blank}
 use Rattle.rules.specs.First.{Sets}
 use Rattle.lookahead.specs.Sets.{loadSet, storeSet}
-use Rattle.lookahead.proofs.Slots.{load-stored, load-other}
-use Rattle.first.specs.Firsts.{loads}
+use Rattle.lookahead.proofs.Slots.{load-stored, load-other, load-none}
+use Rattle.first.specs.Firsts.{loads, firstsIn}
 
 pub loads-at : (b m a : ℕ) (words : List ℕ) → a < m → getD (loads b m words) a 0 ≡ loadSet words (b + a)
 unfolding loads
@@ -42,3 +46,13 @@ module _ (slot s : ℕ) (words : List ℕ) where
       let q : slot ≡ b = omega arith in
       ap₂ _∷_ (ap (loadSet (storeSet slot s words)) (sym q) ∙ load-stored words slot s l) (loads-behind (suc b) m (omega arith))
   loads-stored b (suc m) (suc a) e h l = ap₂ _∷_ (load-other words slot s b (λ q. omega arith)) (loads-stored (suc b) m a (omega arith) (omega arith) l)
+
+-- ---- a room of zeros
+pub loads-none : (b m n : ℕ) → loads b m (zeros n) ≡ replicate m 0
+unfolding loads
+loads-none b zero n = refl
+loads-none b (suc m) n = ap₂ _∷_ (load-none n b) (loads-none (suc b) m n)
+
+pub blank-firsts : (g : Grammar) (past : List ℕ) → firstsIn g (blank past) ≡ replicate (nonterminalCount g) 0
+unfolding blank
+blank-firsts g past = loads-none 0 (nonterminalCount g) 4224
