@@ -2,24 +2,23 @@
 use Prim.Native.Nat.{ℕ, _+_, _*_, _≤_, _<_}
 use mathlib.Core.Path.{_≡_, refl, sym, ap, _∙_}
 use mathlib.Core.Logic.{_⊎_, inl, inr, ⊎-elim}
-use mathlib.Core.Bool.{Bool, true, false, not}
+use mathlib.Core.Bool.{Bool, true, not}
 use mathlib.Core.List.{List, []}
 use native.Mathlib.Omega.{arith}
 use native.Mathlib.Decide.{ℕ-discrete, decLe}
 use lib.ListN.{length, getD}
-use Rattle.base.specs.Pick.{pick}
 use Rattle.rules.specs.Limits.{limits}
 use Rattle.rules.specs.Records.{Grammar, at, records}
-use Rattle.rules.specs.Tokens.{TokenSet, join, within}
+use Rattle.rules.specs.Tokens.{join, within}
 use Rattle.rules.specs.Grammar.{atStart, symbolsBehind, nonterminalCount, firstFault}
 use Rattle.rules.specs.First.{Sets, setOf, first0, addFirst, firstSets}
 use Rattle.room.specs.Areas.{Room, view}
 use Rattle.room.proofs.Lengths.{view-lengths}
-use Rattle.lookahead.specs.Sets.{loadSet, storeSet, withSets, setAt, putSet}
+use Rattle.lookahead.specs.Sets.{loadSet, withSets, setAt, putSet}
 use Rattle.lookahead.proofs.Slots.{same-words, put-there, put-elsewhere, length-stored-set}
 use Rattle.grammar.proofs.Laws.{length-records}
 use Rattle.grammar.proofs.Coded.{nonterminal-count-below}
-use Rattle.first.specs.Firsts.{loads, firstsIn, hasFirst, OnlyFirsts, FirstsFound}
+use Rattle.first.specs.Firsts.{firstsIn, hasFirst, OnlyFirsts, FirstsFound}
 use Rattle.first.proofs.Loads.{loads-at, loads-stored}
 use Rattle.first.proofs.Named.{nonterminal-named, left-side-nonterminal}
 use Rattle.first.proofs.Growth.{add-first-is}
@@ -37,10 +36,10 @@ only-both g u v w p q = record {
 
 -- a set was put into a nonterminal's slot, or into the slot at hand
 only-put : (g : Grammar) (v q : Room) (slot s : ℕ) → (slot < nonterminalCount g) ⊎ (slot ≡ 64) → q ≡ putSet slot s v → OnlyFirsts g v q
-only-put g v q slot s where′ put = record {
+only-put g v q slot s allowed put = record {
   others = ap (withSets []) put;
   words = ap (λ (r : Room). length (r .sets)) put ∙ length-stored-set (v .sets) slot s;
-  slots = λ other h ne. put-elsewhere v q slot s put other (λ e. ⊎-elim (λ l. omega arith) (λ z. ne (e ∙ z)) where′);
+  slots = λ other h ne. put-elsewhere v q slot s put other (λ e. ⊎-elim (λ l. omega arith) (λ z. ne (e ∙ z)) allowed);
 }
 
 pub only-collected : (g : Grammar) (v q : Room) (s : ℕ) → q ≡ putSet 64 s v → OnlyFirsts g v q
@@ -112,9 +111,9 @@ module _ (g : Grammar) (v p q : Room) (one : FirstsFound g v p) (two : FirstsFou
   same-slot : (slot : ℕ) → setAt p slot ≡ setAt q slot
   same-slot slot = elim (decLe (nonterminalCount g) slot) [
     | yes h ↦ (elim (ℕ-discrete slot 64) [
-        | yes e ↦ rw e (one .cleared ∙ sym (two .cleared))
-        | no ne ↦ one .only .slots slot h ne ∙ sym (two .only .slots slot h ne)
-      ])
+      | yes e ↦ rw e (one .cleared ∙ sym (two .cleared))
+      | no ne ↦ one .only .slots slot h ne ∙ sym (two .only .slots slot h ne)
+    ])
     | no h ↦
         let l : slot < nonterminalCount g = omega arith in
         let z : 0 + slot ≡ slot = omega arith in

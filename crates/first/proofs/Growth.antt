@@ -1,7 +1,7 @@
 -- Rounds over the productions: what a round adds, and that a round that adds nothing changes nothing.
 use Prim.Native.Nat.{ℕ, _+_, _-_, _*_, _≤_, _<_}
 use mathlib.Core.Path.{_≡_, refl, sym, ap, _∙_}
-use mathlib.Core.Bool.{Bool, true, false, not, true≢false, false≢true}
+use mathlib.Core.Bool.{Bool, true, false, not, false≢true}
 use mathlib.Core.List.{List, [], _∷_}
 use native.Mathlib.Omega.{arith}
 use native.Mathlib.Nat.{sub-zero, mul-le-mul}
@@ -13,7 +13,7 @@ use Rattle.base.specs.Loops.{until}
 use Rattle.base.specs.Lists.{eachOf, foldOver}
 use Rattle.base.proofs.ListLoops.{kept, kept-each-turn, kept-each-fails, kept-each-end, until-turn, until-end}
 use Rattle.rules.specs.Records.{Grammar, at}
-use Rattle.rules.specs.Tokens.{TokenSet, join, within}
+use Rattle.rules.specs.Tokens.{join}
 use Rattle.rules.specs.Grammar.{atStart, leftSides, symbolsBehind, terminalCount, nonterminalCount}
 use Rattle.rules.specs.First.{Sets, setOf, first0, addFirst, firstSettled, firstSets}
 use Rattle.sets.proofs.Laws.{join-within}

@@ -1,8 +1,8 @@
 -- Joining sets and taking a token out, for sets of any width.
 use Prim.Native.Nat.{ℕ}
 use mathlib.Core.Path.{_≡_, refl}
-use mathlib.Core.Logic.{_⊎_, inl, inr, ⊎-elim, _↔_}
-use mathlib.Core.Bool.{Bool, true, false}
+use mathlib.Core.Logic.{_⊎_, inl, inr, ⊎-elim}
+use mathlib.Core.Bool.{true, false}
 use Rattle.rules.specs.Tokens.{Has, has, join, without}
 use Rattle.sets.proofs.Laws.{has-true, has-false, has-none, has-join, has-without, same-tokens}
 

@@ -1,14 +1,13 @@
 -- The sets in a run of slots, after a set was put into a slot.
 use Prim.Native.Nat.{ℕ, zero, suc, _+_, _<_, _≤_}
 use mathlib.Core.Path.{_≡_, refl, sym, ap, ap₂, _∙_}
-use mathlib.Core.List.{List, [], _∷_}
+use mathlib.Core.List.{List, _∷_}
 use native.Mathlib.Omega.{arith}
 use lib.ListN.{length, getD, set, replicate}
 use Rattle.base.specs.Fill.{zeros}
 use Rattle.rules.specs.Records.{Grammar}
 use Rattle.rules.specs.Grammar.{nonterminalCount}
 use Rattle.room.specs.Areas.{blank}
-use Rattle.rules.specs.First.{Sets}
 use Rattle.lookahead.specs.Sets.{loadSet, storeSet}
 use Rattle.lookahead.proofs.Slots.{load-stored, load-other, load-none}
 use Rattle.first.specs.Firsts.{loads, firstsIn}

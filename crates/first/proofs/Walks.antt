@@ -11,7 +11,7 @@ use borrow.Author.Tests.{not-true, not-false}
 use Rattle.base.specs.Pick.{pick}
 use Rattle.rules.specs.Limits.{limits}
 use Rattle.rules.specs.Records.{Grammar, past, at, records, isTerminal}
-use Rattle.rules.specs.Tokens.{TokenSet, has, single, join, without, eof}
+use Rattle.rules.specs.Tokens.{TokenSet, has, single, join, without}
 use Rattle.rules.specs.Grammar.{Symbol, nonterminal, terminal, symbolOf, sideOf, symbolsBehind, atStart, nonterminalCount, firstFault}
 use Rattle.rules.specs.First.{Sets, setOf, first0}
 use Rattle.room.specs.Areas.{Room, view}
@@ -20,7 +20,7 @@ use Rattle.lookahead.specs.Sets.{loadSet, withSets, setAt, putSet}
 use Rattle.lookahead.proofs.Slots.{store-loaded, put-there, put-again}
 use Rattle.grammar.proofs.Laws.{length-records}
 use Rattle.grammar.proofs.Coded.{nonterminal-count-below, symbol-read}
-use Rattle.first.specs.Firsts.{loads, firstsIn, joinSymbol, goesOn}
+use Rattle.first.specs.Firsts.{firstsIn, joinSymbol, goesOn}
 use Rattle.first.proofs.Joins.{none-lacks, without-lacks, join-none, join-assoc, join-lacks, join-had, without-join, without-none}
 use Rattle.first.proofs.Loads.{loads-at, loads-before}
 use Rattle.first.proofs.Named.{nonterminal-named}

@@ -1,7 +1,7 @@
 // FIRST of every nonterminal, collected in rounds over the productions: first/mod.rs, FirstSets::new.
 ghost use mathlib.Core.Path.{_≡_};
-ghost use mathlib.Core.Bool.{Bool, true, false, not};
-ghost use Prim.Native.Nat.{_+_, _*_, _≤_, _<_};
+ghost use mathlib.Core.Bool.{true, false, not};
+ghost use Prim.Native.Nat.{_+_, _*_, _≤_};
 ghost use lib.ListN.{length, replicate};
 ghost use Rattle.base.specs.Pick.{pick};
 ghost use Rattle.base.specs.Lists.{foldOver};

@@ -1,6 +1,5 @@
 // FIRST of what stands behind a dot: first/mod.rs, first0 and first1. The sets of the nonterminals lie in their slots.
 ghost use mathlib.Core.Path.{_≡_};
-ghost use mathlib.Core.Bool.{Bool, true, false};
 ghost use Prim.Native.Nat.{_+_, _*_, _≤_, _<_};
 ghost use lib.ListN.{length};
 ghost use Rattle.rules.specs.Limits.{limits};

@@ -1,6 +1,6 @@
 -- A store at place a + i, where i < k, leaves every area that is apart from the k numbers from a on.
 -- That two areas are apart is a test on numerals, so that it computes.
-use Prim.Native.Nat.{ℕ, _+_, _<_, _≤_}
+use Prim.Native.Nat.{ℕ, _+_, _<_}
 use mathlib.Core.Path.{_≡_, refl}
 use mathlib.Core.Logic.{_⊎_, inl, inr, ⊎-elim}
 use mathlib.Core.Bool.{Bool, true, false, _||_}

@@ -1,6 +1,6 @@
 // One get and one put for each area of the work room. Their contracts speak of the room as a record of areas.
 ghost use mathlib.Core.Path.{_≡_};
-ghost use Prim.Native.Nat.{_+_, _≤_, _<_};
+ghost use Prim.Native.Nat.{_≤_, _<_};
 ghost use lib.ListN.{length, getD};
 ghost use Rattle.room.specs.Areas.{view, putEntry, putFirstEntry, putParent, putEntered, putSuccessors, putOrigin, putHead, putWalked, putAction, putSetWord};
 
