@@ -1,3 +1,4 @@
+-- `lookahead::put_eof` meets its contract.
 use Rattle.rules.specs.Tokens.{eof}
 use borrow.Author.Needs.{needs}
 use Rattle.lookahead.proofs.put_eof.Statement.{statement}

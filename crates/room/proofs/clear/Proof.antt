@@ -1,3 +1,4 @@
+-- `room::clear` meets its contract. The loop's invariant: the numbers before i are zero, the others as they were. The measure is what is left of the 8,192.
 use borrow.Author.Needs.{needs}
 use Prim.Native.Nat.{_≤_, _-_}
 use mathlib.Core.Path.{_≡_}

@@ -1,3 +1,4 @@
+-- `lookahead::words::all_word` meets its contract.
 use borrow.Author.Needs.{needs}
 use Rattle.lookahead.proofs.Shifts.{single-positive, all-is}
 use Rattle.lookahead.proofs.words.all_word.Statement.{statement}

@@ -1,3 +1,4 @@
+-- `lookahead::words::load` meets its contract.
 use borrow.Author.Needs.{needs}
 use Rattle.lookahead.specs.Sets.{loadSet}
 use Rattle.lookahead.proofs.words.load.Statement.{statement}

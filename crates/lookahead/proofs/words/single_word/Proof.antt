@@ -1,3 +1,4 @@
+-- `lookahead::words::single_word` meets its contract.
 use borrow.Author.Needs.{needs}
 use Rattle.lookahead.proofs.Shifts.{shifted-one}
 use Rattle.lookahead.proofs.words.single_word.Statement.{statement}

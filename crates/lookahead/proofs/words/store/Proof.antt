@@ -1,3 +1,4 @@
+-- `lookahead::words::store` meets its contract.
 use borrow.Author.Needs.{needs}
 use Rattle.lookahead.specs.Sets.{storeSet}
 use Rattle.lookahead.proofs.words.store.Statement.{statement}

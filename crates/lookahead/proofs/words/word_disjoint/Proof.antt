@@ -1,3 +1,4 @@
+-- `lookahead::words::word_disjoint` meets its contract.
 use borrow.Author.Needs.{needs}
 use Rattle.rules.specs.Tokens.{disjoint, meet}
 use Rattle.lookahead.proofs.words.word_disjoint.Statement.{statement}

@@ -1,3 +1,4 @@
+-- `lookahead::words::word_has` meets its contract.
 use borrow.Author.Needs.{needs}
 use Rattle.rules.specs.Tokens.{has}
 use Rattle.lookahead.proofs.words.word_has.Statement.{statement}

@@ -1,3 +1,4 @@
+-- `lookahead::words::word_join` meets its contract.
 use borrow.Author.Needs.{needs}
 use Rattle.rules.specs.Tokens.{join}
 use Rattle.lookahead.proofs.words.word_join.Statement.{statement}

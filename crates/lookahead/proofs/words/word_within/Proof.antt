@@ -1,3 +1,4 @@
+-- `lookahead::words::word_within` meets its contract.
 use borrow.Author.Needs.{needs}
 use Rattle.rules.specs.Tokens.{within, meet}
 use Rattle.lookahead.proofs.words.word_within.Statement.{statement}

@@ -1,3 +1,4 @@
+-- `lookahead::words::word_without` meets its contract.
 use borrow.Author.Needs.{needs}
 use Rattle.lookahead.proofs.Shifts.{had-le, without-had, without-lacked}
 use Rattle.lookahead.proofs.words.word_without.Statement.{statement}

@@ -1,3 +1,4 @@
+-- `room::areas::get_action` meets its contract.
 use borrow.Author.Needs.{needs}
 use Rattle.room.proofs.Views.{action-at}
 use Rattle.room.proofs.areas.get_action.Statement.{statement}

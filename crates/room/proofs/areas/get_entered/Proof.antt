@@ -1,3 +1,4 @@
+-- `room::areas::get_entered` meets its contract.
 use borrow.Author.Needs.{needs}
 use Rattle.room.proofs.Views.{entered-at}
 use Rattle.room.proofs.areas.get_entered.Statement.{statement}

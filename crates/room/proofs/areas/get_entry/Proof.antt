@@ -1,3 +1,4 @@
+-- `room::areas::get_entry` meets its contract.
 use borrow.Author.Needs.{needs}
 use Rattle.room.proofs.Views.{entry-at}
 use Rattle.room.proofs.areas.get_entry.Statement.{statement}

@@ -1,3 +1,4 @@
+-- `room::areas::get_first_entry` meets its contract.
 use borrow.Author.Needs.{needs}
 use Rattle.room.proofs.Views.{first-entry-at}
 use Rattle.room.proofs.areas.get_first_entry.Statement.{statement}

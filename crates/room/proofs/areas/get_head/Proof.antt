@@ -1,3 +1,4 @@
+-- `room::areas::get_head` meets its contract.
 use borrow.Author.Needs.{needs}
 use Rattle.room.proofs.Views.{head-at}
 use Rattle.room.proofs.areas.get_head.Statement.{statement}

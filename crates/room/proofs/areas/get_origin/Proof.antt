@@ -1,3 +1,4 @@
+-- `room::areas::get_origin` meets its contract.
 use borrow.Author.Needs.{needs}
 use Rattle.room.proofs.Views.{origin-at}
 use Rattle.room.proofs.areas.get_origin.Statement.{statement}

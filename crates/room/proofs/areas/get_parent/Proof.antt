@@ -1,3 +1,4 @@
+-- `room::areas::get_parent` meets its contract.
 use borrow.Author.Needs.{needs}
 use Rattle.room.proofs.Views.{parent-at}
 use Rattle.room.proofs.areas.get_parent.Statement.{statement}

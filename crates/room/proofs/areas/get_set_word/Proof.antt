@@ -1,3 +1,4 @@
+-- `room::areas::get_set_word` meets its contract.
 use borrow.Author.Needs.{needs}
 use Rattle.room.proofs.Views.{set-word-at}
 use Rattle.room.proofs.areas.get_set_word.Statement.{statement}

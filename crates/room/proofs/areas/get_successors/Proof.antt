@@ -1,3 +1,4 @@
+-- `room::areas::get_successors` meets its contract.
 use borrow.Author.Needs.{needs}
 use Rattle.room.proofs.Views.{successors-at}
 use Rattle.room.proofs.areas.get_successors.Statement.{statement}

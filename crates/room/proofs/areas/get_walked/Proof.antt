@@ -1,3 +1,4 @@
+-- `room::areas::get_walked` meets its contract.
 use borrow.Author.Needs.{needs}
 use Rattle.room.proofs.Views.{walked-at}
 use Rattle.room.proofs.areas.get_walked.Statement.{statement}

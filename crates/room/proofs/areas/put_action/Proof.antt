@@ -1,3 +1,4 @@
+-- `room::areas::put_action` meets its contract.
 use borrow.Author.Needs.{needs}
 use Rattle.room.proofs.Views.{view-action}
 use Rattle.room.proofs.areas.put_action.Statement.{statement}

@@ -1,3 +1,4 @@
+-- `room::areas::put_entered` meets its contract.
 use borrow.Author.Needs.{needs}
 use Rattle.room.proofs.Views.{view-entered}
 use Rattle.room.proofs.areas.put_entered.Statement.{statement}

@@ -1,3 +1,4 @@
+-- `room::areas::put_head` meets its contract.
 use borrow.Author.Needs.{needs}
 use Rattle.room.proofs.Views.{view-head}
 use Rattle.room.proofs.areas.put_head.Statement.{statement}

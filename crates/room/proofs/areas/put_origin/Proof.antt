@@ -1,3 +1,4 @@
+-- `room::areas::put_origin` meets its contract.
 use borrow.Author.Needs.{needs}
 use Rattle.room.proofs.Views.{view-origin}
 use Rattle.room.proofs.areas.put_origin.Statement.{statement}

@@ -1,3 +1,4 @@
+-- `room::areas::put_parent` meets its contract.
 use borrow.Author.Needs.{needs}
 use Rattle.room.proofs.Views.{view-parent}
 use Rattle.room.proofs.areas.put_parent.Statement.{statement}

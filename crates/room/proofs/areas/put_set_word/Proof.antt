@@ -1,3 +1,4 @@
+-- `room::areas::put_set_word` meets its contract.
 use borrow.Author.Needs.{needs}
 use Rattle.room.proofs.Views.{view-set-word}
 use Rattle.room.proofs.areas.put_set_word.Statement.{statement}

@@ -1,3 +1,4 @@
+-- `room::areas::put_successors` meets its contract.
 use borrow.Author.Needs.{needs}
 use Rattle.room.proofs.Views.{view-successors}
 use Rattle.room.proofs.areas.put_successors.Statement.{statement}

@@ -1,3 +1,4 @@
+-- `room::areas::put_walked` meets its contract.
 use borrow.Author.Needs.{needs}
 use Rattle.room.proofs.Views.{view-walked}
 use Rattle.room.proofs.areas.put_walked.Statement.{statement}

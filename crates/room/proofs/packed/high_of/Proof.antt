@@ -1,3 +1,4 @@
+-- `room::packed::high_of` meets its contract.
 use borrow.Author.Needs.{needs}
 use Rattle.room.specs.Packed.{high}
 use Rattle.room.proofs.packed.high_of.Statement.{statement}

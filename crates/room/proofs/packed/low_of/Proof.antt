@@ -1,3 +1,4 @@
+-- `room::packed::low_of` meets its contract.
 use borrow.Author.Needs.{needs}
 use Rattle.room.specs.Packed.{low}
 use Rattle.room.proofs.packed.low_of.Statement.{statement}

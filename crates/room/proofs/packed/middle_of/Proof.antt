@@ -1,3 +1,4 @@
+-- `room::packed::middle_of` meets its contract.
 use borrow.Author.Needs.{needs}
 use Rattle.room.specs.Packed.{middle}
 use Rattle.room.proofs.packed.middle_of.Statement.{statement}

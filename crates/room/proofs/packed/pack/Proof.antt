@@ -1,3 +1,4 @@
+-- `room::packed::pack` meets its contract.
 use borrow.Author.Needs.{needs}
 use Rattle.room.specs.Packed.{packed}
 use Rattle.room.proofs.packed.pack.Statement.{statement}
