@@ -1,0 +1,12 @@
+-- `lookahead::words::word_disjoint` meets its contract.
+use borrow.Author.Needs.{needs}
+use Rattle.rules.specs.Tokens.{disjoint, meet}
+use Rattle.lookahead.proofs.words.word_disjoint.Statement.{statement}
+use Rattle.lookahead.proofs.words.word_disjoint.Tie as tie
+
+returns : tie.Need-returns
+unfolding disjoint meet
+returns c = search needs
+
+pub word-disjoint-spec : {M : Type 1} → statement M
+word-disjoint-spec = tie.close (tie.spec returns)

@@ -1,0 +1,3 @@
+pub mod Areas
+pub mod Packed
+pub mod Slots
