@@ -175,7 +175,7 @@ module _ (g : Grammar) (states : List State) where
   moved e b least = pick b (giveAt (e .next) (eqb (e .item + 1)) (e .set) least) least
 
   abbrev closed : ℕ → Entry → Bool → List State → List State
-  closed s e b least = pick b (giveAt s (behindDot g sets e) (closing g sets e) least) least
+  closed s e b least = pick b (giveAt s (behindDot g e) (closing g sets e) least) least
 
   closing-below : (e : Entry) → e .set < 2 ^ (n + 1) → closing g sets e < 2 ^ (n + 1)
   unfolding closing
@@ -187,48 +187,48 @@ module _ (g : Grammar) (states : List State) where
     moved-keeps false least k = k
 
     closed-keeps : (d : Bool) (least : List State) → Keeps n states least → Keeps n states (closed s e d least)
-    closed-keeps true least k = give-at-keeps n s (behindDot g sets e) (closing g sets e) (closing-below e b) states least k
+    closed-keeps true least k = give-at-keeps n s (behindDot g e) (closing g sets e) (closing-below e b) states least k
     closed-keeps false least k = k
 
     satisfy-keeps : (least : List State) → Keeps n states least → Keeps n states (satisfy g sets s e least)
     unfolding satisfy
-    satisfy-keeps least k = closed-keeps (closes g sets e) (moved e (movesOn g sets e) least) (moved-keeps (movesOn g sets e) least k)
+    satisfy-keeps least k = closed-keeps (closes g e) (moved e (movesOn g e) least) (moved-keeps (movesOn g e) least k)
 
     moved-rests : (d : Bool) (least : List State) → (not d || haveAt least (e .next) (eqb (e .item + 1)) (e .set)) ≡ true → moved e d least ≡ least
     moved-rests true least h = give-at-rests n (e .next) (eqb (e .item + 1)) (e .set) least h
     moved-rests false least h = refl
 
-    closed-rests : (d : Bool) (least : List State) → (not d || haveAt least s (behindDot g sets e) (closing g sets e)) ≡ true → closed s e d least ≡ least
-    closed-rests true least h = give-at-rests n s (behindDot g sets e) (closing g sets e) least h
+    closed-rests : (d : Bool) (least : List State) → (not d || haveAt least s (behindDot g e) (closing g sets e)) ≡ true → closed s e d least ≡ least
+    closed-rests true least h = give-at-rests n s (behindDot g e) (closing g sets e) least h
     closed-rests false least h = refl
 
     satisfy-rests : (least : List State) → satisfied g sets least s e ≡ true → satisfy g sets s e least ≡ least
     unfolding satisfy satisfied
     satisfy-rests least h =
-        let (p, q) = and-eq-true-iff (not (movesOn g sets e) || haveAt least (e .next) (eqb (e .item + 1)) (e .set)) _ .0 h in
-        ap (closed s e (closes g sets e)) (moved-rests (movesOn g sets e) least p) ∙ closed-rests (closes g sets e) least q
+        let (p, q) = and-eq-true-iff (not (movesOn g e) || haveAt least (e .next) (eqb (e .item + 1)) (e .set)) _ .0 h in
+        ap (closed s e (closes g e)) (moved-rests (movesOn g e) least p) ∙ closed-rests (closes g e) least q
 
     moved-adds : (d : Bool) (least : List State) → (not d || haveAt least (e .next) (eqb (e .item + 1)) (e .set)) ≡ false → leastMass n least < leastMass n (moved e d least)
     moved-adds true least h = give-at-adds n (e .next) (eqb (e .item + 1)) (e .set) b least h
     moved-adds false least h = absurd (true≢false h)
 
-    closed-adds : (d : Bool) (least : List State) → (not d || haveAt least s (behindDot g sets e) (closing g sets e)) ≡ false → leastMass n least < leastMass n (closed s e d least)
-    closed-adds true least h = give-at-adds n s (behindDot g sets e) (closing g sets e) (closing-below e b) least h
+    closed-adds : (d : Bool) (least : List State) → (not d || haveAt least s (behindDot g e) (closing g sets e)) ≡ false → leastMass n least < leastMass n (closed s e d least)
+    closed-adds true least h = give-at-adds n s (behindDot g e) (closing g sets e) (closing-below e b) least h
     closed-adds false least h = absurd (true≢false h)
 
     closed-mass : (d : Bool) (least : List State) → leastMass n least ≤ leastMass n (closed s e d least)
-    closed-mass true least = give-at-mass n s (behindDot g sets e) (closing g sets e) (closing-below e b) least
+    closed-mass true least = give-at-mass n s (behindDot g e) (closing g sets e) (closing-below e b) least
     closed-mass false least = omega arith
 
     satisfy-adds : (least : List State) → satisfied g sets least s e ≡ false → leastMass n least < leastMass n (satisfy g sets s e least)
     unfolding satisfy satisfied
-    satisfy-adds least h = by-moved (not (movesOn g sets e) || haveAt least (e .next) (eqb (e .item + 1)) (e .set)) refl h
+    satisfy-adds least h = by-moved (not (movesOn g e) || haveAt least (e .next) (eqb (e .item + 1)) (e .set)) refl h
       where
-        by-moved : (d : Bool) → (not (movesOn g sets e) || haveAt least (e .next) (eqb (e .item + 1)) (e .set)) ≡ d
-            → (d && (not (closes g sets e) || haveAt least s (behindDot g sets e) (closing g sets e))) ≡ false
-            → leastMass n least < leastMass n (closed s e (closes g sets e) (moved e (movesOn g sets e) least))
-        by-moved true p h = rw (moved-rests (movesOn g sets e) least p) (closed-adds (closes g sets e) least h)
-        by-moved false p h = omega (arith, moved-adds (movesOn g sets e) least p, closed-mass (closes g sets e) (moved e (movesOn g sets e) least))
+        by-moved : (d : Bool) → (not (movesOn g e) || haveAt least (e .next) (eqb (e .item + 1)) (e .set)) ≡ d
+            → (d && (not (closes g e) || haveAt least s (behindDot g e) (closing g sets e))) ≡ false
+            → leastMass n least < leastMass n (closed s e (closes g e) (moved e (movesOn g e) least))
+        by-moved true p h = rw (moved-rests (movesOn g e) least p) (closed-adds (closes g e) least h)
+        by-moved false p h = omega (arith, moved-adds (movesOn g e) least p, closed-mass (closes g e) (moved e (movesOn g e) least))
 
   -- ---- the entries of one state, and then all states
   entry-steps : (s : ℕ) (entries : State) → Small n entries
@@ -250,7 +250,7 @@ module _ (g : Grammar) (states : List State) where
   mass-bounded : (least : List State) → Keeps n states least → leastMass n least ≤ itemCount states * (n + 1)
   mass-bounded least k = omega (arith, least-mass-le n least, ap (λ (i : ℕ). i * (n + 1)) (k .items))
 
-  begun-keeps : Keeps n states (leastBegun g sets states)
+  begun-keeps : Keeps n states (leastBegun g states)
   unfolding leastBegun eof
   begun-keeps =
       give-at-keeps n 0 (eqb 0) (eof n) (single-below (n + 1) n (omega arith)) states (map (map (withSet 0)) states) (emptied-keeps n states)
@@ -259,4 +259,4 @@ module _ (g : Grammar) (states : List State) where
   unfolding leastSettled leastSets leastRound
   least-settled =
       rounds-end (satisfyState g sets) (λ s least. eachOf (satisfied g sets least s) (getD least s [])) (leastMass n) (Keeps n states) (upTo (length states)) state-steps
-      (itemCount states * (n + 1)) mass-bounded (itemCount states * (n + 1)) (leastBegun g sets states) begun-keeps (omega arith)
+      (itemCount states * (n + 1)) mass-bounded (itemCount states * (n + 1)) (leastBegun g states) begun-keeps (omega arith)

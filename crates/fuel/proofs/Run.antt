@@ -10,7 +10,7 @@ use lib.Dec.{eqb, leb}
 use borrow.Author.Tests.{leb-false}
 use Rattle.base.specs.Pick.{pick}
 use Rattle.rules.specs.Records.{Grammar}
-use Rattle.rules.specs.Run.{Act, shift, reduce, noAct, Table, Standing, Moved, goes, ends, RunResult, shifted, reduced, listFull, stackFull, sideLength, productionLeft, token, stateUnder, moveShift, moveGoto, moveEnd, moveReduce, moveBy, move, answered, runFrom}
+use Rattle.rules.specs.Run.{Act, shift, reduce, noAct, Table, Standing, Moved, goes, ends, RunResult, shifted, reduced, listFull, stackFull, sideLength, productionLeft, tokenAt, stateUnder, moveShift, moveGoto, moveEnd, moveReduce, moveBy, move, answered, runFrom}
 use Rattle.rules.specs.declared.RunEnd.the-variants.{StepLimit}
 
 module _ {S : Type 0} (table : Table S) (g : Grammar) (tokens : List ℕ) (limit : ℕ) where
@@ -27,17 +27,17 @@ module _ {S : Type 0} (table : Table S) (g : Grammar) (tokens : List ℕ) (limit
   step-by-test s true x y p q = p
   step-by-test s false x y p q = q
 
-  step-goto : (p : ℕ) (to : Option S) (s : Standing S) → OneStep s (moveGoto table g tokens limit p to s)
+  step-goto : (p : ℕ) (to : Option S) (s : Standing S) → OneStep s (moveGoto g p to s)
   unfolding moveGoto
   step-goto p none s = tt
   step-goto p (some to) s = step-by-test s (listFull s) _ _ tt (step-by-test s (stackFull s _) _ (goes (reduced p (sideLength g p) to s)) tt refl)
 
-  step-reduce : (p : ℕ) (s : Standing S) → OneStep s (moveReduce table g tokens limit p s)
+  step-reduce : (p : ℕ) (s : Standing S) → OneStep s (moveReduce table g tokens p s)
   unfolding moveReduce moveEnd
   step-reduce zero s = step-by-test s (eqb (s .place) (length tokens) && eqb (s .depth) (sideLength g 0 + 1)) _ _ (step-by-test s (listFull s) _ _ tt tt) tt
   step-reduce (suc p) s =
       step-by-test s (leb (s .depth) (sideLength g (suc p))) _ _ tt
-      (step-goto (suc p) (table .goto (stateUnder table g tokens limit (sideLength g (suc p)) s) (productionLeft g (suc p))) s)
+      (step-goto (suc p) (table .goto (stateUnder table (sideLength g (suc p)) s) (productionLeft g (suc p))) s)
 
   step-by : (a : Act S) (s : Standing S) → OneStep s (moveBy table g tokens limit a s)
   unfolding moveBy moveShift
@@ -58,14 +58,14 @@ module _ {S : Type 0} (table : Table S) (g : Grammar) (tokens : List ℕ) (limit
 
   move-is-a-step : (s : Standing S) → OneStep s (move table g tokens limit s)
   unfolding move
-  move-is-a-step s = step-by (table .act (stateUnder table g tokens limit 0 s) (token table g tokens limit s)) s
+  move-is-a-step s = step-by (table .act (stateUnder table 0 s) (tokenAt g tokens (s .place))) s
 
   move-below-limit : (s : Standing S) → Below s (move table g tokens limit s)
   unfolding move
-  move-below-limit s = below-by (table .act (stateUnder table g tokens limit 0 s) (token table g tokens limit s)) s
+  move-below-limit s = below-by (table .act (stateUnder table 0 s) (tokenAt g tokens (s .place))) s
 
   abbrev went-on : ℕ → Moved S → RunResult S
-  went-on fuel moved = elim moved [ goes s′ ↦ runFrom table g tokens limit fuel s′ | ends end s′ ↦ answered table g tokens limit end s′ ]
+  went-on fuel moved = elim moved [ goes s′ ↦ runFrom table g tokens limit fuel s′ | ends end s′ ↦ answered end s′ ]
 
   -- with fuel for one move more than the limit leaves, any larger fuel gives the same
   pub run-fuel : (fuel larger : ℕ) (s : Standing S) → fuel ≤ larger → limit ≤ s .steps + fuel

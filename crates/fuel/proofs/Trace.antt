@@ -18,7 +18,7 @@ use Rattle.rules.specs.Tokens.{TokenSet, single, join, eof}
 use Rattle.rules.specs.Grammar.{symbolOf, atStart, start, terminalCount}
 use Rattle.rules.specs.First.{Sets}
 use Rattle.rules.specs.States.{Entry, State}
-use Rattle.rules.specs.Lanes.{Trace, onTable, wasVisited, visit, addSuccessor, enter, stateAt, predecessors, itemsBefore, mayBeEmpty, tokensPast, enterStart, unShift, unClose}
+use Rattle.rules.specs.Lanes.{Trace, onTable, wasVisited, visit, addSuccessor, enter, predecessors, itemsBefore, mayBeEmpty, tokensPast, enterStart, unShift, unClose}
 use Rattle.sets.specs.Size.{size}
 use Rattle.sets.proofs.Laws.{has-false, has-join, has-single, within-join, size-le, size-within, size-strict}
 
@@ -58,12 +58,12 @@ module _ (g : Grammar) (sets : Sets) (states : List State) (c : ℕ) where
   seen-bound : (trace : Trace) → length (trace .visited) ≡ length states → seen trace ≤ length states * length g
   seen-bound trace l = omega (arith, sum-le (size (length g)) (length g) (size-le (length g)) (trace .visited), ap (λ (k : ℕ). k * length g) l)
 
-  predecessor-below : (s p : ℕ) (i : ℕ) → Among p (predecessors g sets states s (symbolOf (at g i))) → p < length states
+  predecessor-below : (s p : ℕ) (i : ℕ) → Among p (predecessors g states s (symbolOf (at g i))) → p < length states
   unfolding predecessors
   predecessor-below s p i among = let (m, _) = keep-among _ (upTo (length states)) among in upTo-among p (length states) .0 m
 
-  item-recorded : Recorded → (s a j : ℕ) → Among j (itemsBefore g sets states s a) → j < length g
-  unfolding itemsBefore stateAt
+  item-recorded : Recorded → (s a j : ℕ) → Among j (itemsBefore g states s a) → j < length g
+  unfolding itemsBefore
   item-recorded recorded s a j among = let (m, _) = keep-among _ (map (λ (e : Entry). e .item) (getD states s [])) among in recorded s j m
 
   -- ---- the loops: what is done at each predecessor, and at each item before the nonterminal
@@ -76,24 +76,24 @@ module _ (g : Grammar) (sets : Sets) (states : List State) (c : ℕ) where
   abbrev to-item : ℕ → ℕ → ℕ → Trace → Bool → Bool → Trace
   to-item fuel s j trace empty first = elim empty [
     | true ↦ elim first [
-      | true ↦ unClose g sets states fuel c s j (onTable (enter s c (tokensPast g sets states j)) trace)
-      | false ↦ unShift g sets states fuel c s j (onTable (enter s c (tokensPast g sets states j)) trace)
+      | true ↦ unClose g sets states fuel c s j (onTable (enter s c (tokensPast g sets j)) trace)
+      | false ↦ unShift g sets states fuel c s j (onTable (enter s c (tokensPast g sets j)) trace)
     ]
-    | false ↦ onTable (enter s c (tokensPast g sets states j)) trace
+    | false ↦ onTable (enter s c (tokensPast g sets j)) trace
   ]
 
   abbrev un-shifted : ℕ → ℕ → ℕ → Trace → Bool → Trace
   un-shifted fuel s i trace b = elim b [
     | true ↦ trace
-    | false ↦ foldOver (λ p trace. to-predecessor fuel s i p trace (atStart g (i - 1))) (predecessors g sets states s (symbolOf (at g i))) (visit s i trace)
+    | false ↦ foldOver (λ p trace. to-predecessor fuel s i p trace (atStart g (i - 1))) (predecessors g states s (symbolOf (at g i))) (visit s i trace)
   ]
 
   abbrev un-closed : ℕ → ℕ → ℕ → Trace → Bool → Trace
   un-closed fuel s i trace b = elim b [
     | true ↦ trace
     | false ↦
-        foldOver (λ j trace. to-item fuel s j trace (mayBeEmpty g sets states j) (atStart g j)) (itemsBefore g sets states s (at g i .symbol))
-        (enterStart g sets states s c i (visit s i trace))
+        foldOver (λ j trace. to-item fuel s j trace (mayBeEmpty g sets j) (atStart g j)) (itemsBefore g states s (at g i .symbol))
+        (enterStart g s c i (visit s i trace))
   ]
 
   -- ---- what a visit, a link and an entry keep, a trace keeps
@@ -110,7 +110,7 @@ module _ (g : Grammar) (sets : Sets) (states : List State) (c : ℕ) where
       pub shifting : Keeps (unShift g sets states fuel c)
       pub closing : Keeps (unClose g sets states fuel c)
 
-    start-keeps : (s i : ℕ) (trace : Trace) → P trace → P (enterStart g sets states s c i trace)
+    start-keeps : (s i : ℕ) (trace : Trace) → P trace → P (enterStart g s c i trace)
     unfolding enterStart
     start-keeps s i trace h = by-test (eqb (at g i .symbol) (start g))
       where
@@ -123,22 +123,22 @@ module _ (g : Grammar) (sets : Sets) (states : List State) (c : ℕ) where
     predecessor-keeps fuel both s i p trace false q h = both .shifting p (i - 1) (onTable (addSuccessor p s) trace) q (kept .linking p s trace h)
 
     item-keeps : (fuel : ℕ) → BothKeep fuel → (s j : ℕ) (trace : Trace) (b d : Bool) → s < length states → P trace → P (to-item fuel s j trace b d)
-    item-keeps fuel both s j trace true true q h = both .closing s j (onTable (enter s c (tokensPast g sets states j)) trace) q (kept .entering s (tokensPast g sets states j) trace h)
-    item-keeps fuel both s j trace true false q h = both .shifting s j (onTable (enter s c (tokensPast g sets states j)) trace) q (kept .entering s (tokensPast g sets states j) trace h)
-    item-keeps fuel both s j trace false d q h = kept .entering s (tokensPast g sets states j) trace h
+    item-keeps fuel both s j trace true true q h = both .closing s j (onTable (enter s c (tokensPast g sets j)) trace) q (kept .entering s (tokensPast g sets j) trace h)
+    item-keeps fuel both s j trace true false q h = both .shifting s j (onTable (enter s c (tokensPast g sets j)) trace) q (kept .entering s (tokensPast g sets j) trace h)
+    item-keeps fuel both s j trace false d q h = kept .entering s (tokensPast g sets j) trace h
 
     shifted-keeps : (fuel : ℕ) → BothKeep fuel → (s i : ℕ) (trace : Trace) (b : Bool) → s < length states → P trace → P (un-shifted fuel s i trace b)
     shifted-keeps fuel both s i trace true q h = h
     shifted-keeps fuel both s i trace false q h =
-        fold-keeps (λ p trace. to-predecessor fuel s i p trace (atStart g (i - 1))) P (predecessors g sets states s (symbolOf (at g i)))
+        fold-keeps (λ p trace. to-predecessor fuel s i p trace (atStart g (i - 1))) P (predecessors g states s (symbolOf (at g i)))
         (λ p among t k. predecessor-keeps fuel both s i p t (atStart g (i - 1)) (predecessor-below s p i among) k) (visit s i trace) (kept .visiting s i trace q h)
 
     closed-keeps : (fuel : ℕ) → BothKeep fuel → (s i : ℕ) (trace : Trace) (b : Bool) → s < length states → P trace → P (un-closed fuel s i trace b)
     closed-keeps fuel both s i trace true q h = h
     closed-keeps fuel both s i trace false q h =
-        fold-keeps (λ j trace. to-item fuel s j trace (mayBeEmpty g sets states j) (atStart g j)) P (itemsBefore g sets states s (at g i .symbol))
-        (λ j among t k. item-keeps fuel both s j t (mayBeEmpty g sets states j) (atStart g j) q k)
-        (enterStart g sets states s c i (visit s i trace)) (start-keeps s i (visit s i trace) (kept .visiting s i trace q h))
+        fold-keeps (λ j trace. to-item fuel s j trace (mayBeEmpty g sets j) (atStart g j)) P (itemsBefore g states s (at g i .symbol))
+        (λ j among t k. item-keeps fuel both s j t (mayBeEmpty g sets j) (atStart g j) q k)
+        (enterStart g s c i (visit s i trace)) (start-keeps s i (visit s i trace) (kept .visiting s i trace q h))
 
     pub both-keep : (fuel : ℕ) → BothKeep fuel
     unfolding unShift
@@ -168,8 +168,8 @@ module _ (g : Grammar) (sets : Sets) (states : List State) (c : ℕ) where
 
     item-agrees : (fuel larger : ℕ) → BothAgree fuel larger → (s j : ℕ) (trace : Trace) (b d : Bool) → s < length states → j < length g
         → Further (length states * length g - fuel) trace → to-item (suc larger) s j trace b d ≡ to-item (suc fuel) s j trace b d
-    item-agrees fuel larger both s j trace true true q r h = both .closing s j (onTable (enter s c (tokensPast g sets states j)) trace) q r h
-    item-agrees fuel larger both s j trace true false q r h = both .shifting s j (onTable (enter s c (tokensPast g sets states j)) trace) q r h
+    item-agrees fuel larger both s j trace true true q r h = both .closing s j (onTable (enter s c (tokensPast g sets j)) trace) q r h
+    item-agrees fuel larger both s j trace true false q r h = both .shifting s j (onTable (enter s c (tokensPast g sets j)) trace) q r h
     item-agrees fuel larger both s j trace false d q r h = refl
 
     -- a visit that counts leaves a pair less
@@ -190,7 +190,7 @@ module _ (g : Grammar) (sets : Sets) (states : List State) (c : ℕ) where
     shifted-agree fuel larger both s i trace true e q r h = refl
     shifted-agree fuel larger both s i trace false e q r h =
         fold-same (Further (length states * length g - fuel)) (λ p trace. to-predecessor (suc larger) s i p trace (atStart g (i - 1)))
-        (λ p trace. to-predecessor (suc fuel) s i p trace (atStart g (i - 1))) (predecessors g sets states s (symbolOf (at g i)))
+        (λ p trace. to-predecessor (suc fuel) s i p trace (atStart g (i - 1))) (predecessors g states s (symbolOf (at g i)))
         (λ p among t k. predecessor-agrees fuel larger both s i p t (atStart g (i - 1)) (predecessor-below s p i among) r k)
         (λ p among t k. predecessor-keeps (Further (length states * length g - fuel)) (further-kept _) (suc fuel) (both-keep (Further (length states * length g - fuel)) (further-kept _) (suc fuel)) s i p t (atStart g (i - 1)) (predecessor-below s p i among) k)
         (visit s i trace) (visited-left fuel s i trace q r e h)
@@ -199,11 +199,11 @@ module _ (g : Grammar) (sets : Sets) (states : List State) (c : ℕ) where
         → Further (length states * length g - suc fuel) trace → un-closed (suc larger) s i trace b ≡ un-closed (suc fuel) s i trace b
     closed-agree fuel larger both s i trace true e q r h = refl
     closed-agree fuel larger both s i trace false e q r h =
-        fold-same (Further (length states * length g - fuel)) (λ j trace. to-item (suc larger) s j trace (mayBeEmpty g sets states j) (atStart g j))
-        (λ j trace. to-item (suc fuel) s j trace (mayBeEmpty g sets states j) (atStart g j)) (itemsBefore g sets states s (at g i .symbol))
-        (λ j among t k. item-agrees fuel larger both s j t (mayBeEmpty g sets states j) (atStart g j) q (item-recorded recorded s (at g i .symbol) j among) k)
-        (λ j among t k. item-keeps (Further (length states * length g - fuel)) (further-kept _) (suc fuel) (both-keep (Further (length states * length g - fuel)) (further-kept _) (suc fuel)) s j t (mayBeEmpty g sets states j) (atStart g j) q k)
-        (enterStart g sets states s c i (visit s i trace)) (start-keeps (Further (length states * length g - fuel)) (further-kept _) s i (visit s i trace) (visited-left fuel s i trace q r e h))
+        fold-same (Further (length states * length g - fuel)) (λ j trace. to-item (suc larger) s j trace (mayBeEmpty g sets j) (atStart g j))
+        (λ j trace. to-item (suc fuel) s j trace (mayBeEmpty g sets j) (atStart g j)) (itemsBefore g states s (at g i .symbol))
+        (λ j among t k. item-agrees fuel larger both s j t (mayBeEmpty g sets j) (atStart g j) q (item-recorded recorded s (at g i .symbol) j among) k)
+        (λ j among t k. item-keeps (Further (length states * length g - fuel)) (further-kept _) (suc fuel) (both-keep (Further (length states * length g - fuel)) (further-kept _) (suc fuel)) s j t (mayBeEmpty g sets j) (atStart g j) q k)
+        (enterStart g s c i (visit s i trace)) (start-keeps (Further (length states * length g - fuel)) (further-kept _) s i (visit s i trace) (visited-left fuel s i trace q r e h))
 
     both-agree : (fuel larger : ℕ) → fuel ≤ larger → BothAgree fuel larger
     unfolding unShift

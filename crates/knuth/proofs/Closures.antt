@@ -34,6 +34,32 @@ not-at-end g i {x} {β} e = by-test (atEnd g i) refl
     by-test true p = absurd (nil≢cons (sym (at-end-behind g i p) ∙ e))
     by-test false p = (refl, sym (not-at-end-behind g i p) ∙ e)
 
+asked-below : (g : Grammar) (i : ℕ) (s : TokenSet) → asks g i s ≡ true → at g (i + 1) .symbol < nonterminalCount g
+unfolding asks at
+asked-below g i s e = by-tests (noSet s) (atEnd g i) (isTerminal (at g (i + 1))) refl refl e
+  where
+    by-tests : (b d k : Bool) → atEnd g i ≡ d → isTerminal (at g (i + 1)) ≡ k → (not b && (not d && not k)) ≡ true → at g (i + 1) .symbol < nonterminalCount g
+    by-tests true d k p q h = absurd (true≢false (sym h))
+    by-tests false true k p q h = absurd (true≢false (sym h))
+    by-tests false false true p q h = absurd (true≢false (sym h))
+    by-tests false false false p q h = nonterminal-counted g (among-at g (i + 1) past (not-at-end-within g i p)) q
+
+-- an item asks exactly if it has a token and a nonterminal stands behind its dot
+pub asks-behind : (g : Grammar) (i : ℕ) (s : TokenSet) (B : ℕ) {β : List Symbol} → symbolsBehind g i ≡ nonterminal B ∷ β → (s ≡ 0 → ⊥)
+    → (asks g i s ≡ true) × (at g (i + 1) .symbol ≡ B) × (symbolsBehind g (i + 1) ≡ β)
+unfolding asks noSet
+asks-behind g i s B e some =
+    let (p, q) = not-at-end g i e in
+    let (k, f) = nonterminal-record (at g (i + 1)) B (head-eq-of-cons-eq q) in
+    (rw (p, k, ne-eqb s 0 some), f, tail-eq-of-cons-eq q)
+
+pub behind-asks : (g : Grammar) (i : ℕ) (s : TokenSet) → asks g i s ≡ true → symbolsBehind g i ≡ nonterminal (at g (i + 1) .symbol) ∷ symbolsBehind g (i + 1)
+unfolding asks symbolOf
+behind-asks g i s a =
+    let (_, q) = both-true (not (noSet s)) _ a in
+    let (p, k) = both-true (not (atEnd g i)) (not (isTerminal (at g (i + 1)))) q in
+    not-at-end-behind g i (not-true _ p) ∙ ap (λ (b : Bool). pick b (terminal (at g (i + 1) .symbol)) (nonterminal (at g (i + 1) .symbol)) ∷ symbolsBehind g (i + 1)) (not-true (isTerminal (at g (i + 1))) k)
+
 module _ (g : Grammar) (follow : Follow) where
   abbrev n : ℕ
   n = terminalCount g
@@ -48,19 +74,9 @@ module _ (g : Grammar) (follow : Follow) where
   abbrev InRange : Sets → Type 0
   InRange sets = (length sets ≡ m) × Narrow n sets
 
-  asked-below : (i : ℕ) (s : TokenSet) → asks g follow i s ≡ true → at g (i + 1) .symbol < m
-  unfolding asks at
-  asked-below i s e = by-tests (noSet s) (atEnd g i) (isTerminal (at g (i + 1))) refl refl e
-    where
-      by-tests : (b d k : Bool) → atEnd g i ≡ d → isTerminal (at g (i + 1)) ≡ k → (not b && (not d && not k)) ≡ true → at g (i + 1) .symbol < m
-      by-tests true d k p q h = absurd (true≢false (sym h))
-      by-tests false true k p q h = absurd (true≢false (sym h))
-      by-tests false false true p q h = absurd (true≢false (sym h))
-      by-tests false false false p q h = nonterminal-counted g (among-at g (i + 1) past (not-at-end-within g i p)) q
-
   ask-grows : (i : ℕ) (s : TokenSet) (sets : Sets) → Grows sets (ask g follow i s sets)
   unfolding ask
-  ask-grows i s sets = by-test (asks g follow i s)
+  ask-grows i s sets = by-test (asks g i s)
     where
       by-test : (d : Bool) → Grows sets (pick d (joinAt (at g (i + 1) .symbol) (follow (symbolsBehind g (i + 1)) s) sets) sets)
       by-test true = joinAt-grows (at g (i + 1) .symbol) (follow (symbolsBehind g (i + 1)) s) sets
@@ -68,32 +84,16 @@ module _ (g : Grammar) (follow : Follow) where
 
   ask-length : (i : ℕ) (s : TokenSet) (sets : Sets) → length (ask g follow i s sets) ≡ length sets
   unfolding ask
-  ask-length i s sets = by-test (asks g follow i s)
+  ask-length i s sets = by-test (asks g i s)
     where
       by-test : (d : Bool) → length (pick d (joinAt (at g (i + 1) .symbol) (follow (symbolsBehind g (i + 1)) s) sets) sets) ≡ length sets
       by-test true = joinAt-length n _ _ sets
       by-test false = refl
 
-  -- an item asks exactly if it has a token and a nonterminal stands behind its dot
-  pub asks-behind : (i : ℕ) (s : TokenSet) (B : ℕ) {β : List Symbol} → symbolsBehind g i ≡ nonterminal B ∷ β → (s ≡ 0 → ⊥)
-      → (asks g follow i s ≡ true) × (at g (i + 1) .symbol ≡ B) × (symbolsBehind g (i + 1) ≡ β)
-  unfolding asks noSet
-  asks-behind i s B e some =
-      let (p, q) = not-at-end g i e in
-      let (k, f) = nonterminal-record (at g (i + 1)) B (head-eq-of-cons-eq q) in
-      (rw (p, k, ne-eqb s 0 some), f, tail-eq-of-cons-eq q)
-
-  pub behind-asks : (i : ℕ) (s : TokenSet) → asks g follow i s ≡ true → symbolsBehind g i ≡ nonterminal (at g (i + 1) .symbol) ∷ symbolsBehind g (i + 1)
-  unfolding asks symbolOf
-  behind-asks i s a =
-      let (_, q) = both-true (not (noSet s)) _ a in
-      let (p, k) = both-true (not (atEnd g i)) (not (isTerminal (at g (i + 1)))) q in
-      not-at-end-behind g i (not-true _ p) ∙ ap (λ (b : Bool). pick b (terminal (at g (i + 1) .symbol)) (nonterminal (at g (i + 1) .symbol)) ∷ symbolsBehind g (i + 1)) (not-true (isTerminal (at g (i + 1))) k)
-
   module _ (narrow : FollowsNarrow) where
     ask-keeps : (i : ℕ) (s : TokenSet) → s < 2 ^ (n + 1) → (sets : Sets) → InRange sets → InRange (ask g follow i s sets)
     unfolding ask
-    ask-keeps i s b sets (l, h) = by-test (asks g follow i s)
+    ask-keeps i s b sets (l, h) = by-test (asks g i s)
       where
         by-test : (d : Bool) → InRange (pick d (joinAt (at g (i + 1) .symbol) (follow (symbolsBehind g (i + 1)) s) sets) sets)
         by-test true = (joinAt-length n _ _ sets ∙ l, joinAt-narrow n _ _ sets (narrow (i + 1) s b) h)
@@ -101,7 +101,7 @@ module _ (g : Grammar) (follow : Follow) where
 
     ask-rests : (i : ℕ) (s : TokenSet) (sets : Sets) → answeredBy g follow sets i s ≡ true → ask g follow i s sets ≡ sets
     unfolding ask answeredBy
-    ask-rests i s sets e = by-test (asks g follow i s) e
+    ask-rests i s sets e = by-test (asks g i s) e
       where
         by-test : (d : Bool) → (not d || within (follow (symbolsBehind g (i + 1)) s) (setOf sets (at g (i + 1) .symbol))) ≡ true
             → pick d (joinAt (at g (i + 1) .symbol) (follow (symbolsBehind g (i + 1)) s) sets) sets ≡ sets
@@ -111,11 +111,11 @@ module _ (g : Grammar) (follow : Follow) where
     ask-adds : (i : ℕ) (s : TokenSet) → s < 2 ^ (n + 1) → (sets : Sets) → InRange sets → answeredBy g follow sets i s ≡ false
         → mass n sets < mass n (ask g follow i s sets)
     unfolding ask answeredBy
-    ask-adds i s b sets (l, h) e = by-test (asks g follow i s) refl e
+    ask-adds i s b sets (l, h) e = by-test (asks g i s) refl e
       where
-        by-test : (d : Bool) → asks g follow i s ≡ d → (not d || within (follow (symbolsBehind g (i + 1)) s) (setOf sets (at g (i + 1) .symbol))) ≡ false
+        by-test : (d : Bool) → asks g i s ≡ d → (not d || within (follow (symbolsBehind g (i + 1)) s) (setOf sets (at g (i + 1) .symbol))) ≡ false
             → mass n sets < mass n (pick d (joinAt (at g (i + 1) .symbol) (follow (symbolsBehind g (i + 1)) s) sets) sets)
-        by-test true a e = joinAt-adds n _ _ sets (rw l (asked-below i s a)) (narrow (i + 1) s b) e
+        by-test true a e = joinAt-adds n _ _ sets (rw l (asked-below g i s a)) (narrow (i + 1) s b) e
         by-test false a e = absurd (true≢false e)
 
     steps : Steps (λ i sets. ask g follow i (setOf sets (at g i .symbol)) sets) (λ i sets. answeredBy g follow sets i (setOf sets (at g i .symbol))) (mass n) InRange (leftSides g)
@@ -149,12 +149,12 @@ module _ (g : Grammar) (follow : Follow) where
         (m * (n + 1)) (askEntries g follow kernel (replicate m 0)) (begun-in-range kernel small)
 
     -- ---- what an item asks for is there
-    ask-has : (i : ℕ) (s : TokenSet) (sets : Sets) (u : ℕ) → asks g follow i s ≡ true → length sets ≡ m → Has (follow (symbolsBehind g (i + 1)) s) u
+    ask-has : (i : ℕ) (s : TokenSet) (sets : Sets) (u : ℕ) → asks g i s ≡ true → length sets ≡ m → Has (follow (symbolsBehind g (i + 1)) s) u
         → Has (setOf (ask g follow i s sets) (at g (i + 1) .symbol)) u
     unfolding ask
-    ask-has i s sets u a l h = rw a (joinAt-has (at g (i + 1) .symbol) (follow (symbolsBehind g (i + 1)) s) sets u (rw l (asked-below i s a)) h)
+    ask-has i s sets u a l h = rw a (joinAt-has (at g (i + 1) .symbol) (follow (symbolsBehind g (i + 1)) s) sets u (rw l (asked-below g i s a)) h)
 
-    entries-have : {e : Entry} {kernel : State} → Among e kernel → (sets : Sets) (u : ℕ) → asks g follow (e .item) (e .set) ≡ true → length sets ≡ m
+    entries-have : {e : Entry} {kernel : State} → Among e kernel → (sets : Sets) (u : ℕ) → asks g (e .item) (e .set) ≡ true → length sets ≡ m
         → Has (follow (symbolsBehind g (e .item + 1)) (e .set)) u → Has (setOf (askEntries g follow kernel sets) (at g (e .item + 1) .symbol)) u
     unfolding askEntries foldOver
     entries-have {e} (here {xs = es}) sets u a l h =
@@ -163,7 +163,7 @@ module _ (g : Grammar) (follow : Follow) where
     entries-have {e} (later {y = f} k) sets u a l h = entries-have k (ask g follow (f .item) (f .set) sets) u a (ask-length (f .item) (f .set) sets ∙ l) h
 
     module _ (kernel : State) (small : (e : Entry) → Among e kernel → e .set < 2 ^ (n + 1)) where
-      pub kernel-answered : {e : Entry} → Among e kernel → (u : ℕ) → asks g follow (e .item) (e .set) ≡ true
+      pub kernel-answered : {e : Entry} → Among e kernel → (u : ℕ) → asks g (e .item) (e .set) ≡ true
           → Has (follow (symbolsBehind g (e .item + 1)) (e .set)) u → Has (setOf (closureSets g follow kernel) (at g (e .item + 1) .symbol)) u
       unfolding closureSets askLeftSides
       kernel-answered {e} k u a h =
@@ -171,13 +171,13 @@ module _ (g : Grammar) (follow : Follow) where
           (λ i j sets k′. ask-grows i (setOf sets (at g i .symbol)) sets (at g (e .item + 1) .symbol) u k′)
           (m * (n + 1)) (askEntries g follow kernel (replicate m 0)) (entries-have k (replicate m 0) u a (length-replicate m 0) h)
 
-      pub left-side-answered : (i : ℕ) → Among i (leftSides g) → (u : ℕ) → asks g follow i (setOf (closureSets g follow kernel) (at g i .symbol)) ≡ true
+      pub left-side-answered : (i : ℕ) → Among i (leftSides g) → (u : ℕ) → asks g i (setOf (closureSets g follow kernel) (at g i .symbol)) ≡ true
           → Has (follow (symbolsBehind g (i + 1)) (setOf (closureSets g follow kernel) (at g i .symbol))) u → Has (setOf (closureSets g follow kernel) (at g (i + 1) .symbol)) u
       unfolding closureSettled answeredBy
       left-side-answered i k u a h =
           let sets : Sets = closureSets g follow kernel in
           let each = each-true (λ i. answeredBy g follow sets i (setOf sets (at g i .symbol))) k (closure-settled kernel small) in
-          within-true _ _ .0 (implied-true (asks g follow i (setOf sets (at g i .symbol))) _ each a) u h
+          within-true _ _ .0 (implied-true (asks g i (setOf sets (at g i .symbol))) _ each a) u h
 
 -- ---- the two modes
 pub lr0-follows-narrow : (g : Grammar) → FollowsNarrow g (λ xs s. s)

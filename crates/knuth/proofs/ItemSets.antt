@@ -168,7 +168,7 @@ module _ (l : Limits) (g : Grammar) (checked : Checked l g) where
       }
 
   -- the set of a nonterminal that an entry asks for has the tokens that follow it
-  asked-has : (γ : List Symbol) (e : Entry) → Among e (itemSet g γ) → (u : ℕ) → asks g (canonicalFollow g) (e .item) (e .set) ≡ true
+  asked-has : (γ : List Symbol) (e : Entry) → Among e (itemSet g γ) → (u : ℕ) → asks g (e .item) (e .set) ≡ true
       → Has (canonicalFollow g (symbolsBehind g (e .item + 1)) (e .set)) u → Has (setOf (setsAt g γ) (at g (e .item + 1) .symbol)) u
   unfolding entryOf
   asked-has γ e m u a h =
@@ -188,7 +188,7 @@ module _ (l : Limits) (g : Grammar) (checked : Checked l g) where
   has-closed γ {β} {B = B} {t = t} {u = u} h r f =
       let e : Entry = h .entry in
       let some : e .set ≡ 0 → ⊥ = λ z. has-none t (rw z at (h .token)) in
-      let (a, b, rest) = asks-behind g (canonicalFollow g) (e .item) (e .set) B (h .behind) some in
+      let (a, b, rest) = asks-behind g (e .item) (e .set) B (h .behind) some in
       let first : Has (canonicalFollow g (symbolsBehind g (e .item + 1)) (e .set)) u =
       first-behind-dot l g checked (e .item + 1) .ahead-some (e .set) t u (h .token) .1 (t, h .token, rw rest f) in
       let here : Has (setOf (setsAt g γ) B) u = rw b at (asked-has γ e (h .among) u a first) in
@@ -232,7 +232,7 @@ module _ (l : Limits) (g : Grammar) (checked : Checked l g) where
   left-side-sound : (γ : List Symbol) (i t : ℕ) → Among i (leftSides g) → Asked γ (at g i .symbol) t → AtItem γ i t
   left-side-sound γ i t k a = record { left = at g i .symbol; α = []; item = close (a .item) (rule-of-left-side g i k) (a .first) }
 
-  asked-sound : (γ : List Symbol) (i : ℕ) (s : TokenSet) → ((t : ℕ) → Has s t → AtItem γ i t) → asks g (canonicalFollow g) i s ≡ true
+  asked-sound : (γ : List Symbol) (i : ℕ) (s : TokenSet) → ((t : ℕ) → Has s t → AtItem γ i t) → asks g i s ≡ true
       → (u : ℕ) → Has (canonicalFollow g (symbolsBehind g (i + 1)) s) u → Asked γ (at g (i + 1) .symbol) u
   unfolding asks noSet
   asked-sound γ i s sound a u h =
@@ -245,19 +245,19 @@ module _ (l : Limits) (g : Grammar) (checked : Checked l g) where
         α = j .α;
         β = symbolsBehind g (i + 1);
         token = b;
-        item = rw (behind-asks g (canonicalFollow g) i s a) at (j .item);
+        item = rw (behind-asks g i s a) at (j .item);
         first = f;
       }
 
   ask-sound : (γ : List Symbol) (i : ℕ) (s : TokenSet) → ((t : ℕ) → Has s t → AtItem γ i t) → (sets : Sets) → SoundSets γ sets
       → SoundSets γ (ask g (canonicalFollow g) i s sets)
   unfolding ask
-  ask-sound γ i s sound sets h = by-test (asks g (canonicalFollow g) i s) refl
+  ask-sound γ i s sound sets h = by-test (asks g i s) refl
     where
       follows : TokenSet
       follows = canonicalFollow g (symbolsBehind g (i + 1)) s
 
-      by-test : (d : Bool) → asks g (canonicalFollow g) i s ≡ d → SoundSets γ (pick d (joinAt (at g (i + 1) .symbol) follows sets) sets)
+      by-test : (d : Bool) → asks g i s ≡ d → SoundSets γ (pick d (joinAt (at g (i + 1) .symbol) follows sets) sets)
       by-test true a B u k = ⊎-elim (h B u) (λ (e, f). rw e (asked-sound γ i s sound a u f)) (joinAt-only (at g (i + 1) .symbol) follows sets B u k)
       by-test false a B u k = h B u k
 

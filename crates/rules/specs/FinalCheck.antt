@@ -38,36 +38,53 @@ unfoldable pub giveAt : ℕ → (ℕ → Bool) → TokenSet → List State → L
 unfolding giveSet
 giveAt s test tokens least = set least s (giveSet test tokens (getD least s []))
 
+-- the entry has a set, and a symbol behind its dot
+unfoldable pub movesOn : Grammar → Entry → Bool
+unfolding noSet atEnd
+movesOn g e = not (noSet (e .set)) && not (atEnd g (e .item))
+
+-- and that is a nonterminal
+unfoldable pub closes : Grammar → Entry → Bool
+unfolding movesOn isTerminal at
+closes g e = movesOn g e && not (isTerminal (at g (e .item + 1)))
+
+-- the items of the nonterminal behind the dot, and what they get
+unfoldable pub behindDot : Grammar → Entry → ℕ → Bool
+unfolding isLeftSideOf at
+behindDot g e i = isLeftSideOf g (at g (e .item + 1) .symbol) i
+
+unfoldable pub closing : Grammar → Sets → Entry → TokenSet
+unfolding first1 symbolsBehind terminalCount
+closing g sets e = first1 (terminalCount g) sets (symbolsBehind g (e .item + 1)) (e .set)
+
+-- state 0's start item has Eof, every other entry nothing
+unfoldable pub leastBegun : Grammar → List State → List State
+unfolding giveAt eof terminalCount
+leastBegun g states = giveAt 0 (eqb 0) (eof (terminalCount g)) (map (map (withSet 0)) states)
+
+-- some reduction lacks a token of its least set
+unfoldable pub lacks : Grammar → State → State → Bool
+unfolding atEnd within
+lacks g [] least = false
+lacks g (e ∷ es) [] = false
+lacks g (e ∷ es) (f ∷ fs) = (atEnd g (e .item) && not (within (f .set) (e .set))) || lacks g es fs
+
+unfoldable pub fails : Grammar → List State → List State → ℕ → Bool
+unfolding lacks conflictsAt
+fails g states least s = lacks g (getD states s []) (getD least s []) || not (eqb (conflictsAt g (getD states s [])) 0)
+
 module _ (g : Grammar) (sets : Sets) where
-  -- the entry has a set, and a symbol or a nonterminal behind its dot
-  unfoldable pub movesOn : Entry → Bool
-  unfolding noSet atEnd
-  movesOn e = not (noSet (e .set)) && not (atEnd g (e .item))
-
-  unfoldable pub closes : Entry → Bool
-  unfolding movesOn isTerminal at
-  closes e = movesOn e && not (isTerminal (at g (e .item + 1)))
-
-  -- what the items of the nonterminal behind the dot get
-  unfoldable pub closing : Entry → TokenSet
-  unfolding first1 symbolsBehind terminalCount
-  closing e = first1 (terminalCount g) sets (symbolsBehind g (e .item + 1)) (e .set)
-
-  unfoldable pub behindDot : Entry → ℕ → Bool
-  unfolding isLeftSideOf at
-  behindDot e i = isLeftSideOf g (at g (e .item + 1) .symbol) i
-
   -- entry e of state s has what it asks for
   unfoldable pub satisfied : List State → ℕ → Entry → Bool
   unfolding movesOn closes closing behindDot haveAt
   satisfied least s e =
-      (not (movesOn e) || haveAt least (e .next) (eqb (e .item + 1)) (e .set)) && (not (closes e) || haveAt least s (behindDot e) (closing e))
+      (not (movesOn g e) || haveAt least (e .next) (eqb (e .item + 1)) (e .set)) && (not (closes g e) || haveAt least s (behindDot g e) (closing g sets e))
 
   unfoldable pub satisfy : ℕ → Entry → List State → List State
   unfolding movesOn closes closing behindDot giveAt
   satisfy s e least =
-      let moved : List State = pick (movesOn e) (giveAt (e .next) (eqb (e .item + 1)) (e .set) least) least in
-      pick (closes e) (giveAt s (behindDot e) (closing e) moved) moved
+      let moved : List State = pick (movesOn g e) (giveAt (e .next) (eqb (e .item + 1)) (e .set) least) least in
+      pick (closes g e) (giveAt s (behindDot g e) (closing g sets e) moved) moved
 
   unfoldable pub satisfyState : ℕ → List State → List State
   unfolding foldOver satisfy
@@ -82,32 +99,16 @@ module _ (g : Grammar) (sets : Sets) where
   unfolding foldOver satisfyState upTo
   leastRound count least = foldOver satisfyState (upTo count) least
 
-  -- state 0's start item has Eof, every other entry nothing
-  unfoldable pub leastBegun : List State → List State
-  unfolding giveAt eof terminalCount
-  leastBegun states = giveAt 0 (eqb 0) (eof (terminalCount g)) (map (map (withSet 0)) states)
-
   -- a round that is not the last adds one of n + 1 tokens to the set of an entry, so as many rounds suffice as there are pairs of
   -- entry and token
   unfoldable pub leastSets : List State → List State
   unfolding until leastSettled leastRound leastBegun itemCount terminalCount
-  leastSets states = until (leastSettled (length states)) (leastRound (length states)) (itemCount states * (terminalCount g + 1)) (leastBegun states)
+  leastSets states = until (leastSettled (length states)) (leastRound (length states)) (itemCount states * (terminalCount g + 1)) (leastBegun g states)
 
-  -- ---- the states that fail
-  -- some reduction lacks a token of its least set
-  unfoldable pub lacks : State → State → Bool
-  unfolding atEnd within
-  lacks [] least = false
-  lacks (e ∷ es) [] = false
-  lacks (e ∷ es) (f ∷ fs) = (atEnd g (e .item) && not (within (f .set) (e .set))) || lacks es fs
-
-  unfoldable pub fails : List State → List State → ℕ → Bool
-  unfolding lacks conflictsAt
-  fails states least s = lacks (getD states s []) (getD least s []) || not (eqb (conflictsAt g (getD states s [])) 0)
-
+  -- ---- the lowest state that fails
   unfoldable pub firstFailing : List State → ℕ
   unfolding firstFrom fails leastSets
-  firstFailing states = let least : List State = leastSets states in firstFrom (fails states least) (length states) 0
+  firstFailing states = let least : List State = leastSets states in firstFrom (fails g states least) (length states) 0
 
 unfoldable pub checked : Grammar → Outcome (List State) → Outcome (List State)
 unfolding firstFailing firstSets

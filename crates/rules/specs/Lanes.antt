@@ -110,38 +110,35 @@ visit s i trace = record { table = trace .table; visited = set (trace .visited) 
 abbrev pub onTable : (LaneTable → LaneTable) → Trace → Trace
 onTable change trace = record { table = change (trace .table); visited = trace .visited }
 
+-- the states that lead to s over x, ascending; state_graph.rs: predecessors
+unfoldable pub predecessors : Grammar → List State → ℕ → Symbol → List ℕ
+unfolding keep upTo someOf isBefore
+predecessors g states s x = keep (λ p. someOf (λ e. isBefore g x (e .item) && eqb (e .next) s) (getD states p [])) (upTo (length states))
+
+-- the items of state s with the dot before nonterminal a
+unfoldable pub itemsBefore : Grammar → List State → ℕ → ℕ → List ℕ
+unfolding keep isBefore
+itemsBefore g states s a = keep (λ i. isBefore g (nonterminal a) i) (map (λ e. e .item) (getD states s []))
+
+-- FIRST of what follows the nonterminal behind the dot of item i, with the mark; whether that can be empty; and without the mark
+unfoldable pub firstPast : Grammar → Sets → ℕ → TokenSet
+unfolding first0 symbolsBehind terminalCount
+firstPast g sets i = first0 (terminalCount g) sets (symbolsBehind g (i + 1))
+
+unfoldable pub mayBeEmpty : Grammar → Sets → ℕ → Bool
+unfolding firstPast has terminalCount
+mayBeEmpty g sets i = has (firstPast g sets i) (terminalCount g)
+
+unfoldable pub tokensPast : Grammar → Sets → ℕ → TokenSet
+unfolding firstPast without terminalCount
+tokensPast g sets i = without (firstPast g sets i) (terminalCount g)
+
+-- the start enters Eof
+unfoldable pub enterStart : Grammar → ℕ → ℕ → ℕ → Trace → Trace
+unfolding enter eof terminalCount at start
+enterStart g s c i trace = pick (eqb (at g i .symbol) (start g)) (onTable (enter s c (eof (terminalCount g))) trace) trace
+
 module _ (g : Grammar) (sets : Sets) (states : List State) where
-  unfoldable pub stateAt : ℕ → State
-  stateAt s = getD states s []
-
-  -- the states that lead to s over x, ascending; state_graph.rs: predecessors
-  unfoldable pub predecessors : ℕ → Symbol → List ℕ
-  unfolding keep upTo someOf isBefore stateAt
-  predecessors s x = keep (λ p. someOf (λ e. isBefore g x (e .item) && eqb (e .next) s) (stateAt p)) (upTo (length states))
-
-  -- the items of state s with the dot before nonterminal a
-  unfoldable pub itemsBefore : ℕ → ℕ → List ℕ
-  unfolding keep isBefore stateAt
-  itemsBefore s a = keep (λ i. isBefore g (nonterminal a) i) (map (λ e. e .item) (stateAt s))
-
-  -- FIRST of what follows the nonterminal behind the dot of item i, with the mark
-  unfoldable pub firstPast : ℕ → TokenSet
-  unfolding first0 symbolsBehind terminalCount
-  firstPast i = first0 (terminalCount g) sets (symbolsBehind g (i + 1))
-
-  unfoldable pub mayBeEmpty : ℕ → Bool
-  unfolding firstPast has terminalCount
-  mayBeEmpty i = has (firstPast i) (terminalCount g)
-
-  unfoldable pub tokensPast : ℕ → TokenSet
-  unfolding firstPast without terminalCount
-  tokensPast i = without (firstPast i) (terminalCount g)
-
-  -- the start enters Eof
-  unfoldable pub enterStart : ℕ → ℕ → ℕ → Trace → Trace
-  unfolding enter eof terminalCount at start
-  enterStart s c i trace = pick (eqb (at g i .symbol) (start g)) (onTable (enter s c (eof (terminalCount g))) trace) trace
-
   -- The trace of column c back from item i in state s; lane/mod.rs: continue_trace. Each call that does not stop at once visits a
   -- pair of state and item that was not visited, so as many nested calls as there are pairs, and one that stops, suffice.
   unfoldable mutual
@@ -159,7 +156,7 @@ module _ (g : Grammar) (sets : Sets) (states : List State) where
                 | true ↦ unClose fuel c p (i - 1) (onTable (addSuccessor p s) trace)
                 | false ↦ unShift fuel c p (i - 1) (onTable (addSuccessor p s) trace)
               ])
-              (predecessors s (symbolOf (at g i)))
+              (predecessors g states s (symbolOf (at g i)))
               (visit s i trace)
         ]
 
@@ -172,15 +169,15 @@ module _ (g : Grammar) (sets : Sets) (states : List State) where
           | true ↦ trace
           | false ↦
               foldOver
-              (λ j trace. elim (mayBeEmpty j) [
+              (λ j trace. elim (mayBeEmpty g sets j) [
                 | true ↦ elim (atStart g j) [
-                  | true ↦ unClose fuel c s j (onTable (enter s c (tokensPast j)) trace)
-                  | false ↦ unShift fuel c s j (onTable (enter s c (tokensPast j)) trace)
+                  | true ↦ unClose fuel c s j (onTable (enter s c (tokensPast g sets j)) trace)
+                  | false ↦ unShift fuel c s j (onTable (enter s c (tokensPast g sets j)) trace)
                 ]
-                | false ↦ onTable (enter s c (tokensPast j)) trace
+                | false ↦ onTable (enter s c (tokensPast g sets j)) trace
               ])
-              (itemsBefore s (at g i .symbol))
-              (enterStart s c i (visit s i trace))
+              (itemsBefore g states s (at g i .symbol))
+              (enterStart g s c i (visit s i trace))
         ]
 
   -- lane/mod.rs: start_trace. A shift enters its own terminal at the state. A reduction enters an empty set, then goes back

@@ -95,52 +95,9 @@ module _ {S : Type 0} where
   unfoldable pub stackFull : Standing S → ℕ → Bool
   stackFull s depth = leb (length (s .stack)) depth
 
-module _ {S : Type 0} (table : Table S) (g : Grammar) (tokens : List ℕ) (limit : ℕ) where
-  unfoldable pub token : Standing S → ℕ
-  unfolding terminalCount
-  token s = getD tokens (s .place) (terminalCount g)
-
   -- the state that stands under the topmost k
-  unfoldable pub stateUnder : ℕ → Standing S → S
-  stateUnder k s = getD (s .stack) (s .depth - 1 - k) (table .bottom)
-
-  unfoldable pub moveShift : S → Standing S → Moved S
-  unfolding stackFull
-  moveShift to s = pick (stackFull s (s .depth)) (ends StackFull s) (goes (shifted to s))
-
-  -- a reduction by a production other than 0; its symbols' states can be popped
-  unfoldable pub moveGoto : ℕ → Option S → Standing S → Moved S
-  unfolding listFull stackFull sideLength
-  moveGoto p none s = ends Broken s
-  moveGoto p (some to) s =
-      pick (listFull s) (ends ListFull s)
-      (pick (stackFull s (s .depth - sideLength g p)) (ends StackFull s)
-      (goes (reduced p (sideLength g p) to s)))
-
-  -- production 0 on Eof accepts, if just state 0 is left
-  unfoldable pub moveEnd : Standing S → Moved S
-  unfolding listFull sideLength
-  moveEnd s =
-      pick (eqb (s .place) (length tokens) && eqb (s .depth) (sideLength g 0 + 1))
-      (pick (listFull s) (ends ListFull s) (ends Accepted (ended s)))
-      (ends Broken s)
-
-  unfoldable pub moveReduce : ℕ → Standing S → Moved S
-  unfolding moveEnd moveGoto stateUnder sideLength productionLeft
-  moveReduce zero s = moveEnd s
-  moveReduce (suc p) s =
-      pick (leb (s .depth) (sideLength g (suc p))) (ends Broken s)
-      (moveGoto (suc p) (table .goto (stateUnder (sideLength g (suc p)) s) (productionLeft g (suc p))) s)
-
-  unfoldable pub moveBy : Act S → Standing S → Moved S
-  unfolding moveShift moveReduce
-  moveBy noAct s = ends Rejected s
-  moveBy (shift to) s = pick (leb limit (s .steps)) (ends StepLimit s) (moveShift to s)
-  moveBy (reduce p) s = pick (leb limit (s .steps)) (ends StepLimit s) (moveReduce p s)
-
-  unfoldable pub move : Standing S → Moved S
-  unfolding moveBy stateUnder token
-  move s = moveBy (table .act (stateUnder 0 s) (token s)) s
+  unfoldable pub stateUnder : Table S → ℕ → Standing S → S
+  stateUnder table k s = getD (s .stack) (s .depth - 1 - k) (table .bottom)
 
   unfoldable pub answered : RunEnd → Standing S → RunResult S
   answered end s = record {
@@ -149,18 +106,63 @@ module _ {S : Type 0} (table : Table S) (g : Grammar) (tokens : List ℕ) (limit
     list = s .list;
   }
 
+  -- ---- the moves
+  unfoldable pub moveShift : S → Standing S → Moved S
+  unfolding stackFull
+  moveShift to s = pick (stackFull s (s .depth)) (ends StackFull s) (goes (shifted to s))
+
+  -- a reduction by production p, not 0; its symbols' states can be popped
+  unfoldable pub moveGoto : Grammar → ℕ → Option S → Standing S → Moved S
+  unfolding listFull stackFull sideLength
+  moveGoto g p none s = ends Broken s
+  moveGoto g p (some to) s =
+      pick (listFull s) (ends ListFull s)
+      (pick (stackFull s (s .depth - sideLength g p)) (ends StackFull s)
+      (goes (reduced p (sideLength g p) to s)))
+
+  -- production 0 on Eof accepts, if just state 0 is left
+  unfoldable pub moveEnd : Grammar → List ℕ → Standing S → Moved S
+  unfolding listFull sideLength
+  moveEnd g tokens s =
+      pick (eqb (s .place) (length tokens) && eqb (s .depth) (sideLength g 0 + 1))
+      (pick (listFull s) (ends ListFull s) (ends Accepted (ended s)))
+      (ends Broken s)
+
+  unfoldable pub moveReduce : Table S → Grammar → List ℕ → ℕ → Standing S → Moved S
+  unfolding moveEnd moveGoto stateUnder sideLength productionLeft
+  moveReduce table g tokens zero s = moveEnd g tokens s
+  moveReduce table g tokens (suc p) s =
+      pick (leb (s .depth) (sideLength g (suc p))) (ends Broken s)
+      (moveGoto g (suc p) (table .goto (stateUnder table (sideLength g (suc p)) s) (productionLeft g (suc p))) s)
+
+-- ---- the run
+-- the token at a place, and Eof at the end
+unfoldable pub tokenAt : Grammar → List ℕ → ℕ → ℕ
+unfolding terminalCount
+tokenAt g tokens place = getD tokens place (terminalCount g)
+
+module _ {S : Type 0} (table : Table S) (g : Grammar) (tokens : List ℕ) (limit : ℕ) where
+  unfoldable pub moveBy : Act S → Standing S → Moved S
+  unfolding moveShift moveReduce
+  moveBy noAct s = ends Rejected s
+  moveBy (shift to) s = pick (leb limit (s .steps)) (ends StepLimit s) (moveShift to s)
+  moveBy (reduce p) s = pick (leb limit (s .steps)) (ends StepLimit s) (moveReduce table g tokens p s)
+
+  unfoldable pub move : Standing S → Moved S
+  unfolding moveBy stateUnder tokenAt
+  move s = moveBy (table .act (stateUnder table 0 s) (tokenAt g tokens (s .place))) s
+
   -- a move is a step, and none is made at the limit, so limit + 1 moves are the most that are tried
   unfoldable pub runFrom : ℕ → Standing S → RunResult S
   unfolding move answered
   runFrom zero s = answered StepLimit s
   runFrom (suc fuel) s = elim (move s) [ goes s′ ↦ runFrom fuel s′ | ends end s′ ↦ answered end s′ ]
 
-  unfoldable pub opened : List S → List ℕ → Standing S
-  opened stack list = record { stack = set stack 0 (table .bottom); depth = 1; list = list; listed = 0; steps = 0; place = 0 }
-
   -- the stack begins as state 0, and room 0 gives 20
   unfoldable pub run : List S → List ℕ → RunResult S
-  unfolding answered opened runFrom
+  unfolding answered runFrom
   run stack list =
-      let ran : RunResult S = runFrom (limit + 1) (opened stack list) in
-      pick (eqb (length stack) 0) (answered StackFull (record { stack = stack; depth = 0; list = list; listed = 0; steps = 0; place = 0 })) ran
+      let opened : Standing S = record { stack = set stack 0 (table .bottom); depth = 1; list = list; listed = 0; steps = 0; place = 0 } in
+      let unopened : Standing S = record { stack = stack; depth = 0; list = list; listed = 0; steps = 0; place = 0 } in
+      let ran : RunResult S = runFrom (limit + 1) opened in
+      pick (eqb (length stack) 0) (answered StackFull unopened) ran

@@ -48,18 +48,18 @@ unfoldable pub noSet : TokenSet → Bool
 noSet s = eqb s 0
 
 -- item i, with that set, asks for the nonterminal behind its dot
-unfoldable pub asks : Grammar → Follow → ℕ → TokenSet → Bool
+unfoldable pub asks : Grammar → ℕ → TokenSet → Bool
 unfolding noSet atEnd isTerminal at
-asks g follow i s = not (noSet s) && (not (atEnd g i) && not (isTerminal (at g (i + 1))))
+asks g i s = not (noSet s) && (not (atEnd g i) && not (isTerminal (at g (i + 1))))
 
 unfoldable pub ask : Grammar → Follow → ℕ → TokenSet → Sets → Sets
 unfolding asks joinAt at symbolsBehind
-ask g follow i s sets = pick (asks g follow i s) (joinAt (at g (i + 1) .symbol) (follow (symbolsBehind g (i + 1)) s) sets) sets
+ask g follow i s sets = pick (asks g i s) (joinAt (at g (i + 1) .symbol) (follow (symbolsBehind g (i + 1)) s) sets) sets
 
 -- what item i asks for is there
 unfoldable pub answeredBy : Grammar → Follow → Sets → ℕ → TokenSet → Bool
 unfolding asks within setOf at symbolsBehind
-answeredBy g follow sets i s = not (asks g follow i s) || within (follow (symbolsBehind g (i + 1)) s) (setOf sets (at g (i + 1) .symbol))
+answeredBy g follow sets i s = not (asks g i s) || within (follow (symbolsBehind g (i + 1)) s) (setOf sets (at g (i + 1) .symbol))
 
 unfoldable pub askEntries : Grammar → Follow → State → Sets → Sets
 unfolding foldOver ask
