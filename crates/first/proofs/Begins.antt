@@ -15,7 +15,7 @@ use Rattle.room.proofs.Lengths.{view-lengths}
 use Rattle.lookahead.specs.Sets.{setAt, putSet}
 use Rattle.lookahead.proofs.Slots.{put-there, put-elsewhere, put-again}
 use Rattle.first.specs.Firsts.{beginning, mayBeEmpty}
-use Rattle.first.proofs.Joins.{without-none}
+use Rattle.sets.proofs.Joins.{without-none}
 
 module _ (n : ℕ) (sets : Sets) (xs : List Symbol) where
   first1-tests : (l : TokenSet) → first1 n sets xs l ≡ pick (has (first0 n sets xs) n) (join (without (first0 n sets xs) n) l) (first0 n sets xs)

@@ -8,7 +8,7 @@ use native.Mathlib.Omega.{arith}
 use native.Mathlib.Decide.{ℕ-discrete, decLe}
 use lib.ListN.{length, getD}
 use Rattle.rules.specs.Limits.{limits}
-use Rattle.rules.specs.Records.{Grammar, at, records}
+use Rattle.rules.specs.Records.{Grammar, at, records, isLeftSide}
 use Rattle.rules.specs.Tokens.{join, within}
 use Rattle.rules.specs.Grammar.{atStart, symbolsBehind, nonterminalCount, firstFault}
 use Rattle.rules.specs.First.{Sets, setOf, first0, addFirst, firstSets}
@@ -16,11 +16,10 @@ use Rattle.room.specs.Areas.{Room, view}
 use Rattle.room.proofs.Lengths.{view-lengths}
 use Rattle.lookahead.specs.Sets.{loadSet, withSets, setAt, putSet}
 use Rattle.lookahead.proofs.Slots.{same-words, put-there, put-elsewhere, length-stored-set}
-use Rattle.rules.proofs.Laws.{length-records}
-use Rattle.grammar.proofs.Coded.{nonterminal-count-below}
+use Rattle.rules.proofs.Laws.{length-records, nonterminal-counted-at}
+use Rattle.grammar.proofs.Coded.{nonterminal-count-below, left-nonterminal}
 use Rattle.first.specs.Firsts.{firstsIn, hasFirst, OnlyFirsts, FirstsFound}
 use Rattle.first.proofs.Loads.{loads-at, loads-stored}
-use Rattle.first.proofs.Named.{nonterminal-named, left-side-nonterminal}
 use Rattle.first.proofs.Growth.{add-first-is}
 use Rattle.first.proofs.Walks.{firsts-kept}
 
@@ -52,8 +51,12 @@ module _ (bytes : List ℕ) (n i a slot own : ℕ) (w : List ℕ) (p : Room) (cl
   here : i < length (records bytes)
   here = omega (arith, length-records bytes)
 
+  left-side : isLeftSide (at (records bytes) i) ≡ true
+  unfolding atStart
+  left-side = starts
+
   below : own < nonterminalCount (records bytes)
-  below = omega (arith, nonterminal-named (records bytes) i here (left-side-nonterminal (records bytes) i here clean starts))
+  below = omega (arith, nonterminal-counted-at (records bytes) i here (left-nonterminal (records bytes) clean i here left-side))
 
   few : nonterminalCount (records bytes) ≤ 64
   few = nonterminal-count-below (records bytes) clean

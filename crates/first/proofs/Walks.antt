@@ -4,13 +4,11 @@ use mathlib.Core.Path.{_≡_, refl, sym, ap, _∙_}
 use mathlib.Core.Bool.{Bool, true, false, not, false≢true}
 use mathlib.Core.List.{List, [], _∷_}
 use native.Mathlib.Omega.{arith}
-use native.Mathlib.Numerals.{add-one}
 use lib.ListN.{length, drop, drop-of-length-le}
-use lib.Seq.{drop-cons}
 use borrow.Author.Tests.{not-true, not-false}
 use Rattle.base.specs.Pick.{pick}
 use Rattle.rules.specs.Limits.{limits}
-use Rattle.rules.specs.Records.{Grammar, past, at, records, isTerminal}
+use Rattle.rules.specs.Records.{Grammar, at, records, isTerminal}
 use Rattle.rules.specs.Tokens.{TokenSet, has, single, join, without}
 use Rattle.rules.specs.Grammar.{Symbol, nonterminal, terminal, symbolOf, sideOf, symbolsBehind, atStart, nonterminalCount, firstFault}
 use Rattle.rules.specs.First.{Sets, setOf, first0}
@@ -18,12 +16,11 @@ use Rattle.room.specs.Areas.{Room, view}
 use Rattle.room.proofs.Lengths.{view-lengths}
 use Rattle.lookahead.specs.Sets.{loadSet, withSets, setAt, putSet}
 use Rattle.lookahead.proofs.Slots.{store-loaded, put-there, put-again}
-use Rattle.rules.proofs.Laws.{length-records}
+use Rattle.rules.proofs.Laws.{length-records, side-from, nonterminal-counted-at}
 use Rattle.grammar.proofs.Coded.{nonterminal-count-below, symbol-read}
 use Rattle.first.specs.Firsts.{firstsIn, joinSymbol, goesOn}
-use Rattle.first.proofs.Joins.{none-lacks, without-lacks, join-none, join-assoc, join-lacks, join-had, without-join, without-none}
+use Rattle.sets.proofs.Joins.{none-lacks, without-lacks, join-none, join-assoc, join-lacks, join-had, without-join, without-none}
 use Rattle.first.proofs.Loads.{loads-at, loads-before}
-use Rattle.first.proofs.Named.{nonterminal-named}
 
 -- ---- a set put into a slot
 pub slot-fits : (l : ℕ) (w : List ℕ) (slot : ℕ) → 8192 ≤ l → length w ≡ l → slot < 4224 → slot < length (view w .sets)
@@ -58,7 +55,7 @@ module _ (bytes : List ℕ) (n k slot a : ℕ) (b : Bool) (w : List ℕ) (is : b
   first-of : 8 * k + 8 ≤ length bytes → b ≡ false → setOf (firstsIn (records bytes) (view w)) a ≡ setAt (view w) a
   unfolding setOf
   first-of h f =
-      let l : at (records bytes) k .symbol < nonterminalCount (records bytes) = nonterminal-named (records bytes) k (omega (arith, length-records bytes)) (sym is ∙ f) in
+      let l : at (records bytes) k .symbol < nonterminalCount (records bytes) = nonterminal-counted-at (records bytes) k (omega (arith, length-records bytes)) (sym is ∙ f) in
       let z : 0 + a ≡ a = omega arith in
       loads-at 0 (nonterminalCount (records bytes)) a (view w .sets) (omega arith) ∙ ap (loadSet (view w .sets)) z
 
@@ -120,10 +117,6 @@ pub record Walked (g : Grammar) (n slot : ℕ) (v : Room) (t : TokenSet) (k : �
   pub lacks : has (setAt q slot) n ≡ false
   pub left : join (setAt q slot) (first0 n (firstsIn g v) (sideOf (drop k g))) ≡ t
 
-side-more : (g : Grammar) (k : ℕ) → k < length g → sideOf (drop k g) ≡ pick (atStart g k) [] (symbolOf (at g k) ∷ sideOf (drop (k + 1) g))
-unfolding sideOf atStart
-side-more g k h = rw (add-one, drop-cons g k past h)
-
 pub walk-start : (g : Grammar) (n slot i : ℕ) (v : Room) → setAt v slot ≡ 0 → Walked g n slot v (first0 n (firstsIn g v) (symbolsBehind g i)) (i + 1) v
 unfolding symbolsBehind
 walk-start g n slot i v e = record {
@@ -145,7 +138,8 @@ module _ (g : Grammar) (n slot : ℕ) (v : Room) (t : TokenSet) (k : ℕ) (q : R
 
     module _ (b : Bool) (starts : b ≡ atStart g k) (h : k < count) where
       more : sideOf (drop k g) ≡ pick (atStart g k) [] (symbolOf (at g k) ∷ sideOf (drop (k + 1) g))
-      more = side-more g k (omega arith)
+      unfolding atStart
+      more = side-from g k
 
       pub walk-ends : (p : Room) → b ≡ true → p ≡ putSet slot (join (setAt q slot) (single n)) q → p ≡ putSet slot t v
       walk-ends p f put = ended (more ∙ rw (← starts, f)) p put

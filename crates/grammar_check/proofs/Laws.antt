@@ -1,21 +1,19 @@
 -- What the loops of this crate go by.
-use Prim.Native.Nat.{ℕ, _+_, _-_, _*_, _%_, _^_, _≤_, _<_}
+use Prim.Native.Nat.{ℕ, _+_, _-_, _≤_, _<_}
 use mathlib.Core.Path.{_≡_, sym, ap, _∙_}
 use mathlib.Core.List.{[], _∷_}
 use mathlib.Core.Bool.{Bool, true, false, not}
 use native.Mathlib.Omega.{arith}
-use native.Mathlib.Numerals.{add-one}
 use native.Mathlib.Decide.{decLe}
 use lib.ListN.{length, drop, drop-of-length-le}
-use lib.Seq.{drop-cons}
-use lib.Pow.{pow-lt}
 use lib.Dec.{leb}
 use borrow.Author.Tests.{not-true, not-false, lt-ltb, le-ltb, le-leb, lt-leb}
 use Rattle.base.specs.Loops.{firstFrom}
 use Rattle.base.specs.Pick.{pick}
 use Rattle.base.specs.Lists.{eachOf, foldOver}
 use Rattle.base.proofs.ListLoops.{first-whole, kept, kept-fold-turn, kept-each-turn, kept-each-fails}
-use Rattle.rules.specs.Records.{Grammar, past, at}
+use Rattle.rules.proofs.Laws.{side-from}
+use Rattle.rules.specs.Records.{Grammar, at}
 use Rattle.rules.specs.Tokens.{TokenSet}
 use Rattle.rules.specs.Grammar.{Symbol, collect, allCollected, productive, firstBarren, symbolOf, sideOf, atStart, isLeftSideOf, leftSides, nonterminalCount}
 use Rattle.grammar.proofs.Laws.{left-sides}
@@ -32,27 +30,27 @@ lacks g a n k e f =
 
 -- ---- the symbols behind a dot, up to the next left side; k is the record at hand and n the number of records
 module _ (g : Grammar) (holds : Symbol → Bool) (k n : ℕ) (t : Bool) (size : n ≡ length g) where
-  side-more : k < n → sideOf (drop k g) ≡ pick (atStart g k) [] (symbolOf (at g k) ∷ sideOf (drop (k + 1) g))
-  unfolding sideOf atStart
-  side-more h = let l : k < length g = omega arith in rw (add-one, drop-cons g k past l)
+  side-more : sideOf (drop k g) ≡ pick (atStart g k) [] (symbolOf (at g k) ∷ sideOf (drop (k + 1) g))
+  unfolding atStart
+  side-more = side-from g k
 
   pub side-turn : (b d : Bool) → k < n → eachOf holds (sideOf (drop k g)) ≡ t → b ≡ atStart g k → b ≡ false → d ≡ holds (symbolOf (at g k)) → not d ≡ false → eachOf holds (sideOf (drop (k + 1) g)) ≡ t
   unfolding eachOf
   side-turn b d h e p f q x =
       let s : atStart g k ≡ false = sym p ∙ f in
       let z : holds (symbolOf (at g k)) ≡ true = sym q ∙ not-false d x in
-      rw (side-more h, s, z) at e
+      rw (side-more, s, z) at e
 
   pub side-fails : (b d : Bool) → k < n → eachOf holds (sideOf (drop k g)) ≡ t → b ≡ atStart g k → b ≡ false → d ≡ holds (symbolOf (at g k)) → not d ≡ true → false ≡ t
   unfolding eachOf
   side-fails b d h e p f q x =
       let s : atStart g k ≡ false = sym p ∙ f in
       let z : holds (symbolOf (at g k)) ≡ false = sym q ∙ not-true d x in
-      rw (side-more h, s, z) at e
+      rw (side-more, s, z) at e
 
   pub side-ends : (b : Bool) → k < n → eachOf holds (sideOf (drop k g)) ≡ t → b ≡ atStart g k → b ≡ true → true ≡ t
   unfolding eachOf
-  side-ends b h e p f = let s : atStart g k ≡ true = sym p ∙ f in rw (side-more h, s) at e
+  side-ends b h e p f = let s : atStart g k ≡ true = sym p ∙ f in rw (side-more, s) at e
 
   pub side-over : n ≤ k → eachOf holds (sideOf (drop k g)) ≡ t → true ≡ t
   unfolding eachOf sideOf
@@ -84,7 +82,3 @@ module _ (g : Grammar) (n : ℕ) where
 pub barren-start : (g : Grammar) (m : ℕ) (found : TokenSet) → m ≡ nonterminalCount g → found ≡ productive g → firstFrom (isBarren found) (m - 0) 0 ≡ firstBarren g
 unfolding firstBarren isBarren
 barren-start g m found e f = first-whole (isBarren found) m (nonterminalCount g) e ∙ ap (λ (s : TokenSet). firstFrom (isBarren s) (nonterminalCount g) 0) f
-
--- ---- a set of numbers below 64 in one word
-pub one-shifted : (t : ℕ) → t < 64 → 1 * 2 ^ t % 2 ^ 64 ≡ 2 ^ t
-one-shifted t h = let p : 2 ^ t < 2 ^ 64 = pow-lt h in omega arith

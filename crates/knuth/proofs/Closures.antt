@@ -10,11 +10,11 @@ use lib.ListN.{length, replicate, length-replicate}
 use Rattle.base.specs.Pick.{pick}
 use Rattle.base.specs.Among.{Among, here, later}
 use Rattle.base.specs.Lists.{foldOver}
-use Rattle.base.proofs.Lists.{among-at, at-replicate, fold-keeps, each-true}
+use Rattle.base.proofs.Lists.{at-replicate, fold-keeps, each-true}
 use Rattle.base.proofs.Tests.{both-true, implied-true}
 use Rattle.base.proofs.Until.{Steps, rounds-keep, rounds-end}
-use Rattle.rules.proofs.Laws.{not-at-end-within, nonterminal-counted}
-use Rattle.rules.specs.Records.{Grammar, past, at, isTerminal}
+use Rattle.rules.proofs.Laws.{not-at-end-within, nonterminal-counted-at}
+use Rattle.rules.specs.Records.{Grammar, at, isTerminal}
 use Rattle.rules.specs.Tokens.{TokenSet, Has, has, join, within, without}
 use Rattle.rules.specs.Grammar.{Symbol, nonterminal, terminal, symbolOf, atEnd, symbolsBehind, leftSides, terminalCount, nonterminalCount}
 use Rattle.rules.specs.First.{Sets, setOf, joinAt, first0, first1, addFirst, firstSettled, firstSets}
@@ -35,14 +35,14 @@ not-at-end g i {x} {β} e = by-test (atEnd g i) refl
     by-test false p = (refl, sym (not-at-end-behind g i p) ∙ e)
 
 asked-below : (g : Grammar) (i : ℕ) (s : TokenSet) → asks g i s ≡ true → at g (i + 1) .symbol < nonterminalCount g
-unfolding asks at
+unfolding asks
 asked-below g i s e = by-tests (noSet s) (atEnd g i) (isTerminal (at g (i + 1))) refl refl e
   where
     by-tests : (b d k : Bool) → atEnd g i ≡ d → isTerminal (at g (i + 1)) ≡ k → (not b && (not d && not k)) ≡ true → at g (i + 1) .symbol < nonterminalCount g
     by-tests true d k p q h = absurd (true≢false (sym h))
     by-tests false true k p q h = absurd (true≢false (sym h))
     by-tests false false true p q h = absurd (true≢false (sym h))
-    by-tests false false false p q h = nonterminal-counted g (among-at g (i + 1) past (not-at-end-within g i p)) q
+    by-tests false false false p q h = nonterminal-counted-at g (i + 1) (not-at-end-within g i p) q
 
 -- an item asks exactly if it has a token and a nonterminal stands behind its dot
 pub asks-behind : (g : Grammar) (i : ℕ) (s : TokenSet) (B : ℕ) {β : List Symbol} → symbolsBehind g i ≡ nonterminal B ∷ β → (s ≡ 0 → ⊥)

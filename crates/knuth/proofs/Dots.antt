@@ -1,15 +1,14 @@
 -- The symbols behind a dot, record by record: either the dot is at the end, or the next record's symbol stands first and the rest is
 -- what stands behind the next item's dot.
-use Prim.Native.Nat.{ℕ, zero, suc, _+_}
+use Prim.Native.Nat.{ℕ, _+_}
 use mathlib.Core.Path.{_≡_, refl, sym, _∙_, ap₂}
 use mathlib.Core.Bool.{Bool, true, false, _&&_, not, false≢true}
 use mathlib.Core.List.{List, [], _∷_, nil≢cons, cons≢nil, head-eq-of-cons-eq, tail-eq-of-cons-eq}
-use native.Mathlib.Numerals.{add-one}
-use lib.ListN.{drop}
 use borrow.Author.Tests.{eqb-true, eq-eqb}
 use Rattle.base.specs.Pick.{pick}
-use Rattle.rules.specs.Records.{Grammar, at, isLeftSide}
-use Rattle.rules.specs.Grammar.{Symbol, nonterminal, terminal, symbolOf, sameSymbol, atEnd, isBefore, sideOf, symbolsBehind}
+use Rattle.rules.proofs.Laws.{side-from}
+use Rattle.rules.specs.Records.{Grammar, at}
+use Rattle.rules.specs.Grammar.{Symbol, nonterminal, terminal, symbolOf, sameSymbol, atEnd, isBefore, symbolsBehind}
 
 same-symbol : (x : Symbol) → sameSymbol x x ≡ true
 unfolding sameSymbol
@@ -23,16 +22,9 @@ symbol-same (nonterminal A) (terminal t) e = absurd (false≢true e)
 symbol-same (terminal t) (nonterminal A) e = absurd (false≢true e)
 symbol-same (terminal t) (terminal u) e = rw (eqb-true t u e)
 
-side-from : (g : Grammar) (k : ℕ) → sideOf (drop k g) ≡ pick (isLeftSide (at g k)) [] (symbolOf (at g k) ∷ sideOf (drop (suc k) g))
-unfolding sideOf at
-side-from [] zero = refl
-side-from [] (suc k) = refl
-side-from (r ∷ g) zero = refl
-side-from (r ∷ g) (suc k) = side-from g k
-
 behind-is : (g : Grammar) (i : ℕ) → symbolsBehind g i ≡ pick (atEnd g i) [] (symbolOf (at g (i + 1)) ∷ symbolsBehind g (i + 1))
 unfolding symbolsBehind atEnd
-behind-is g i = rw (add-one (i + 1)) (side-from g (i + 1))
+behind-is g i = side-from g (i + 1)
 
 module _ (g : Grammar) (i : ℕ) where
   pub at-end-behind : atEnd g i ≡ true → symbolsBehind g i ≡ []

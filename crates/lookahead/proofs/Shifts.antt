@@ -5,13 +5,14 @@ use mathlib.Core.Bool.{Bool, true, false}
 use native.Mathlib.Omega.{arith}
 use native.Mathlib.Nat.{div-eq-of-lt}
 use native.Mathlib.Decide.{decLe}
-use lib.Pow.{pow-lt, pow-pos}
+use lib.Pow.{pow-pos}
 use borrow.Author.Tests.{eqb-true}
+use Rattle.base.proofs.Words.{one-shifted}
 use Rattle.rules.specs.Tokens.{has, single, without, all}
 
 pub shifted-one : (t : ℕ) → t < 64 → 1 * 2 ^ t % 2 ^ 64 ≡ single t
 unfolding single
-shifted-one t h = let p : 2 ^ t < 2 ^ 64 = pow-lt h in omega arith
+shifted-one = one-shifted
 
 module _ (s t p : ℕ) (b : Bool) (e : b ≡ has s t) where
   pub had-le : b ≡ true → p ≡ single t → p ≤ s

@@ -3,15 +3,16 @@
 use Prim.Native.Nat.{ℕ, zero, suc, _+_, _/_, _<_, _≤_}
 use mathlib.Core.Path.{_≡_, refl, ap}
 use mathlib.Core.Bool.{true, false, true≢false}
-use mathlib.Core.List.{List}
+use mathlib.Core.List.{List, [], _∷_}
 use native.Mathlib.Omega.{arith}
 use native.Mathlib.Decide.{decLe}
+use native.Mathlib.Numerals.{add-one}
 use lib.ListN.{length, drop, List·getD-eq-default}
 use Rattle.base.specs.Pick.{pick}
 use Rattle.base.specs.Among.{Among}
-use Rattle.base.proofs.Lists.{among-map, le-greatest}
+use Rattle.base.proofs.Lists.{among-at, among-map, le-greatest}
 use Rattle.rules.specs.Records.{Record, Grammar, recordsOf, records, past, at, isTerminal, isLeftSide}
-use Rattle.rules.specs.Grammar.{atEnd, terminalCount, nonterminalCount}
+use Rattle.rules.specs.Grammar.{symbolOf, sideOf, atEnd, terminalCount, nonterminalCount}
 
 -- ---- records
 pub length-recordsOf : (k : ℕ) (bytes : List ℕ) → length (recordsOf k bytes) ≡ k
@@ -35,6 +36,18 @@ not-at-end-within g i e = elim (decLe (length g) (i + 1)) [
   | no h ↦ omega arith
 ]
 
+-- ---- right sides
+-- the symbols of the records from k on end there if k is a left side
+pub side-from : (g : Grammar) (k : ℕ) → sideOf (drop k g) ≡ pick (isLeftSide (at g k)) [] (symbolOf (at g k) ∷ sideOf (drop (k + 1) g))
+unfolding sideOf at
+side-from g k = rw add-one (from g k)
+  where
+    from : (g : Grammar) (k : ℕ) → sideOf (drop k g) ≡ pick (isLeftSide (at g k)) [] (symbolOf (at g k) ∷ sideOf (drop (suc k) g))
+    from [] zero = refl
+    from [] (suc k) = refl
+    from (r ∷ g) zero = refl
+    from (r ∷ g) (suc k) = from g k
+
 -- ---- symbols
 module _ (g : Grammar) {r : Record} (named : Among r g) where
   pub terminal-counted : isTerminal r ≡ true → r .symbol < terminalCount g
@@ -50,3 +63,9 @@ module _ (g : Grammar) {r : Record} (named : Among r g) where
       let h = le-greatest (among-map (λ (r : Record). pick (isTerminal r) 0 (r .symbol + 1)) named) in
       let q : pick (isTerminal r) 0 (r .symbol + 1) ≡ r .symbol + 1 = rw e in
       omega arith
+
+-- the same of a record by its place
+module _ (g : Grammar) (i : ℕ) (h : i < length g) where
+  pub nonterminal-counted-at : isTerminal (at g i) ≡ false → at g i .symbol < nonterminalCount g
+  unfolding at
+  nonterminal-counted-at = nonterminal-counted g (among-at g i past h)

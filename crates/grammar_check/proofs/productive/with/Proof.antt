@@ -1,7 +1,7 @@
 -- `grammar_check::productive::with` meets its contract.
 use borrow.Author.Needs.{needs}
 use Rattle.rules.specs.Tokens.{join, single}
-use Rattle.grammar_check.proofs.Laws.{one-shifted}
+use Rattle.base.proofs.Words.{one-shifted}
 use Rattle.grammar_check.proofs.productive.with.Statement.{statement}
 use Rattle.grammar_check.proofs.productive.with.Tie as tie
 
