@@ -1,7 +1,7 @@
 -- Knuth's definition of LR(1), and what it is to have no conflict.
 --
--- D. E. Knuth, "On the Translation of Languages from Left to Right", Information and Control 8 (1965), section II, at k = 1. Left the
--- paper, right the text below:
+-- D. E. Knuth, "On the Translation of Languages from Left to Right", Information and Control 8 (1965), section II, at k = 1. Left what the
+-- paper says, in short; right the text below:
 --
 --   ⊣, a new character; a k-sentential form is a        Eof. One ⊣ stands behind a form and is not written, so the token behind χ in
 --   sentential form followed by k characters ⊣          χ u ⊣ is `next Eof u`
