@@ -4,8 +4,7 @@ use mathlib.Core.Bool.{Bool, true, false}
 use mathlib.Core.List.{List, [], _∷_}
 use Rattle.base.specs.Pick.{pick}
 use Rattle.base.specs.Among.{Among, here, later}
-use Rattle.rules.specs.States.{Outcome, done, refused}
-use Rattle.rules.specs.Merge.{eachInTurn}
+use Rattle.rules.specs.States.{Outcome, done, refused, eachInTurn}
 
 module _ {A : Type 0} (P : A → Type 0) where
   abbrev pub Holds : Outcome A → Type 0

@@ -19,11 +19,10 @@ use Rattle.rules.specs.Records.{Grammar}
 use Rattle.rules.specs.Tokens.{TokenSet}
 use Rattle.rules.specs.Grammar.{Symbol, atStart, atEnd, isBefore, leftSides}
 use Rattle.rules.specs.First.{Sets}
-use Rattle.rules.specs.States.{Entry, State, Outcome, done, refused, Follow, entryOf, closureSets, noSet, closure, kernelOver, sameKernel, symbols, lead, Expansion, addTransition, addTransitions, Collection, itemCount, expanded, expandNext, expandAll, statesFrom}
+use Rattle.rules.specs.States.{eachInTurn, Entry, State, Outcome, done, refused, Follow, entryOf, closureSets, noSet, closure, kernelOver, sameKernel, symbols, lead, Expansion, addTransition, Collection, itemCount, expanded, expandNext, expandAll, statesFrom}
 use Rattle.rules.specs.Lanes.{Action, actionsAt, LaneTable, laneTable, allColumns, pairwiseDisjoint, rowsDisjoint, beachheads}
-use Rattle.rules.specs.Merge.{Merge, headOf, groupColumns, canJoin, joinGroups, clonesOf, cloneState, patchLinks, walkOn, joined, joinNew, firstJoining, withNew, joinSuccessor, eachInTurn, walk, takeColumn, takeColumns, takeAll, mergeBegun, merged, split, resolveBy, resolve}
+use Rattle.rules.specs.Merge.{Merge, headOf, groupColumns, canJoin, joinGroups, clonesOf, cloneState, patchLinks, walkOn, joined, joinNew, firstJoining, withNew, joinSuccessor, walk, takeColumn, takeColumns, takeAll, mergeBegun, merged, split, resolveBy, resolve}
 use Rattle.fuel.proofs.Outcomes.{Holds, holds-pick, holds-in-turn}
-use Rattle.fuel.proofs.States.{transitions-keep}
 use Rattle.fuel.proofs.Walk.{walk-keeps}
 
 module _ (g : Grammar) where
@@ -103,7 +102,7 @@ module _ (g : Grammar) where
           let e : Expansion = record { kernels = c .kernels; entries = state } in
           let sound : Sound e = (k, closure-recorded follow (getD (c .kernels) (length (c .states)) []) (at-recorded (c .kernels) (length (c .states)) k)) in
           holds-pick Known (ltb (l .items) (itemCount (c .states) + length state)) _ _ (λ _. tt)
-          (λ _. expanded-recorded (c .states) (addTransitions l g (symbols g) e) h (transitions-keep l g Sound transition-recorded (symbols g) e sound))
+          (λ _. expanded-recorded (c .states) (eachInTurn (addTransition l g) (symbols g) e) h (holds-in-turn Sound (addTransition l g) (symbols g) (λ x among. transition-recorded x) e sound))
 
       expand-recorded : (fuel : ℕ) (c : Collection) → Known c → Holds AllRecorded (expandAll l g follow fuel c)
       unfolding expandAll

@@ -12,8 +12,8 @@ use Rattle.base.proofs.Places.{place-within}
 use Rattle.rules.specs.Limits.{Limits}
 use Rattle.rules.specs.Records.{Grammar}
 use Rattle.rules.specs.Grammar.{Symbol}
-use Rattle.rules.specs.States.{State, Outcome, done, refused, Follow, closure, kernelOver, sameKernel, symbols, Expansion, addTransition, addTransitions, Collection, itemCount, expanded, expandNext, expandAll}
-use Rattle.fuel.proofs.Outcomes.{Holds, holds-pick}
+use Rattle.rules.specs.States.{State, Outcome, done, refused, eachInTurn, Follow, closure, kernelOver, sameKernel, symbols, Expansion, addTransition, Collection, itemCount, expanded, expandNext, expandAll}
+use Rattle.fuel.proofs.Outcomes.{Holds, holds-pick, holds-in-turn}
 
 module _ (l : Limits) (g : Grammar) where
   abbrev Few : Expansion → Type 0
@@ -36,18 +36,6 @@ module _ (l : Limits) (g : Grammar) where
         length-append (e .kernels) (kernel ∷ []),
       ))))
 
-  -- what every transition keeps
-  pub transitions-keep : (P : Expansion → Type 0) → ((x : Symbol) (e : Expansion) → P e → Holds P (addTransition l g x e))
-      → (xs : List Symbol) (e : Expansion) → P e → Holds P (addTransitions l g xs e)
-  unfolding addTransitions
-  transitions-keep P keeps [] e h = h
-  transitions-keep P keeps (x ∷ xs) e h = by-first (addTransition l g x e) (keeps x e h) (transitions-keep P keeps xs)
-    where
-      by-first : (first : Outcome Expansion) → Holds P first → ((e : Expansion) → P e → Holds P (addTransitions l g xs e))
-          → Holds P (elim first [ done e′ ↦ addTransitions l g xs e′ | refused why ↦ refused why ])
-      by-first (done e′) h more = more e′ h
-      by-first (refused why) h more = tt
-
   module _ (follow : Follow) where
     abbrev One : Collection → Collection → Type 0
     One c c′ = (length (c′ .states) ≡ length (c .states) + 1) × (length (c′ .kernels) ≤ l .states)
@@ -63,7 +51,7 @@ module _ (l : Limits) (g : Grammar) where
         let state : State = closure g follow (getD (c .kernels) (length (c .states)) []) in
         let e : Expansion = record { kernels = c .kernels; entries = state } in
         holds-pick (One c) (ltb (l .items) (itemCount (c .states) + length state)) _ _ (λ _. tt)
-        (λ _. one-expanded c (addTransitions l g (symbols g) e) (transitions-keep Few transition-few (symbols g) e h))
+        (λ _. one-expanded c (eachInTurn (addTransition l g) (symbols g) e) (holds-in-turn Few (addTransition l g) (symbols g) (λ x among. transition-few x) e h))
 
     abbrev went-on : ℕ → Outcome Collection → Outcome (List State)
     went-on fuel o = elim o [ done c′ ↦ expandAll l g follow fuel c′ | refused why ↦ refused why ]

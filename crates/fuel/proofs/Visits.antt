@@ -14,9 +14,9 @@ use Rattle.rules.specs.Records.{Grammar}
 use Rattle.rules.specs.Tokens.{TokenSet, single}
 use Rattle.rules.specs.Grammar.{atStart}
 use Rattle.rules.specs.First.{Sets}
-use Rattle.rules.specs.States.{State, Outcome, done, refused}
+use Rattle.rules.specs.States.{eachInTurn, State, Outcome, done, refused}
 use Rattle.rules.specs.Lanes.{Action, shift, reduce, actionsAt, LaneTable, Trace, visit, addSuccessor, enter, unShift, unClose, traceAction, traceActions, laneTable, allColumns, pairwiseDisjoint, rowsDisjoint, beachheads}
-use Rattle.rules.specs.Merge.{Merge, clonesOf, headOf, groupColumns, eachInTurn, walk, takeColumns, takeAll, mergeBegun, merged, split, resolveBy, resolve, resolveFrom}
+use Rattle.rules.specs.Merge.{Merge, clonesOf, headOf, groupColumns, walk, takeColumns, takeAll, mergeBegun, merged, split, resolveBy, resolve, resolveFrom}
 use Rattle.fuel.proofs.Outcomes.{Holds, holds-pick, holds-also, holds-in-turn}
 use Rattle.fuel.proofs.Trace.{Kept, both-keep}
 use Rattle.fuel.proofs.Walk.{Further, walk-further}

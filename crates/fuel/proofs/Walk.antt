@@ -16,9 +16,9 @@ use Rattle.base.proofs.Lists.{among-at, among-cons, keep-among, upTo-among}
 use Rattle.rules.specs.Limits.{Limits}
 use Rattle.rules.specs.Records.{Grammar}
 use Rattle.rules.specs.Tokens.{has, single, join}
-use Rattle.rules.specs.States.{Outcome, done, refused, itemCount}
+use Rattle.rules.specs.States.{eachInTurn, Outcome, done, refused, itemCount}
 use Rattle.rules.specs.Lanes.{LaneTable}
-use Rattle.rules.specs.Merge.{Merge, canJoin, joinGroups, clonesOf, cloneState, patchLinks, walkOn, joined, joinNew, firstJoining, Joining, withNew, joinSuccessor, successorsOf, eachInTurn, walk}
+use Rattle.rules.specs.Merge.{Merge, canJoin, joinGroups, clonesOf, cloneState, patchLinks, walkOn, joined, joinNew, firstJoining, Joining, withNew, joinSuccessor, successorsOf, walk}
 use Rattle.sets.specs.Size.{size}
 use Rattle.sets.proofs.Laws.{has-false, has-join, has-single, within-join, size-le, size-within, size-strict}
 use Rattle.fuel.proofs.Outcomes.{Holds, holds-pick, holds-also, holds-in-turn, same-in-turn}

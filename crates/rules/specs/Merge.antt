@@ -15,7 +15,7 @@ use Rattle.rules.specs.Records.{Grammar}
 use Rattle.rules.specs.Tokens.{TokenSet, has, single, join}
 use Rattle.rules.specs.Grammar.{atEnd}
 use Rattle.rules.specs.First.{Sets, firstSets}
-use Rattle.rules.specs.States.{Entry, State, Outcome, done, refused, itemCount, conflictCount, lr0States}
+use Rattle.rules.specs.States.{Entry, State, Outcome, done, refused, eachInTurn, itemCount, conflictCount, lr0States}
 use Rattle.rules.specs.Lanes.{Action, isReduce, actionsAt, LaneTable, Row, rowOf, columnOf, laneTable, joinColumns, pairwiseDisjoint, allColumns, rowsDisjoint, beachheads}
 use Rattle.rules.specs.declared.BuildRefusal.the-variants.{States as TooManyStates, Items as TooManyItems, Actions as TooManyActions, Conflicts}
 
@@ -95,7 +95,7 @@ unfolding join single
 walkOn s m = record { states = m .states; origins = m .origins; heads = m .heads; walked = join (m .walked) (single s) }
 
 -- ---- the walk
--- which state takes the place of a successor: itself, a clone that there is, or a new one
+-- s and t are joined, where t stands in the successor's place: the successor itself, or a clone of it, to which s is linked
 unfoldable pub joined : Grammar → ℕ → ℕ → ℕ → Merge → Merge
 unfolding joinGroups patchLinks
 joined g s successor t m = pick (eqb t successor) (joinGroups s t m) (patchLinks g s successor t (joinGroups s t m))
@@ -139,11 +139,6 @@ joinSuccessor l g table s successor m =
 unfoldable pub successorsOf : LaneTable → Merge → ℕ → List ℕ
 unfolding keep has rowOfOrigin upTo
 successorsOf table m s = keep (has (rowOfOrigin table m s .successors)) (upTo (length table))
-
--- a step for each, as long as none refuses
-unfoldable pub eachInTurn : {A B : Type 0} → (A → B → Outcome B) → List A → B → Outcome B
-eachInTurn step [] b = done b
-eachInTurn step (x ∷ xs) b = elim (step x b) [ done b′ ↦ eachInTurn step xs b′ | refused why ↦ refused why ]
 
 -- merge.rs: walk. Depth first: into a joined successor before the next one is joined. Each call that does not stop at once walks a
 -- state that was not walked, so as many nested calls as there can be states, and one that stops, suffice

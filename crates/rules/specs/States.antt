@@ -40,6 +40,11 @@ pub data Outcome (A : Type 0) : Type 0 where
   done : A → Outcome A
   refused : BuildRefusal → Outcome A
 
+-- a step for each, as long as none refuses
+unfoldable pub eachInTurn : {A B : Type 0} → (A → B → Outcome B) → List A → B → Outcome B
+eachInTurn step [] b = done b
+eachInTurn step (x ∷ xs) b = elim (step x b) [ done b′ ↦ eachInTurn step xs b′ | refused why ↦ refused why ]
+
 -- ---- closure
 abbrev pub Follow : Type 0
 Follow = List Symbol → TokenSet → TokenSet
@@ -133,11 +138,6 @@ addTransition l g x e =
     let reused : Outcome Expansion = pick known (done (record { kernels = e .kernels; entries = led })) added in
     pick (isEmpty kernel) (done e) reused
 
-unfoldable pub addTransitions : Limits → Grammar → List Symbol → Expansion → Outcome Expansion
-unfolding addTransition
-addTransitions l g [] e = done e
-addTransitions l g (x ∷ xs) e = elim (addTransition l g x e) [ done e′ ↦ addTransitions l g xs e′ | refused why ↦ refused why ]
-
 -- ---- the collection
 pub record Collection : Type 0 where
   -- of every state added
@@ -156,10 +156,10 @@ expanded states (refused why) = refused why
 
 -- the next state is closed, where 10 is met, and then its transitions are added
 unfoldable pub expandNext : Limits → Grammar → Follow → Collection → Outcome Collection
-unfolding closure itemCount addTransitions symbols expanded
+unfolding closure itemCount eachInTurn addTransition symbols expanded
 expandNext l g follow c =
     let state : State = closure g follow (getD (c .kernels) (length (c .states)) []) in
-    let more : Outcome Collection = expanded (c .states) (addTransitions l g (symbols g) (record { kernels = c .kernels; entries = state })) in
+    let more : Outcome Collection = expanded (c .states) (eachInTurn (addTransition l g) (symbols g) (record { kernels = c .kernels; entries = state })) in
     pick (ltb (l .items) (itemCount (c .states) + length state)) (refused TooManyItems) more
 
 -- each turn expands one state, and there are never more than the limit, so that many turns and one to see the end suffice
