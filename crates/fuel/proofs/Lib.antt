@@ -1,6 +1,7 @@
 pub mod Least
 pub mod Outcomes
 pub mod Recorded
+pub mod Resolve
 pub mod Run
 pub mod States
 pub mod Trace

@@ -10,7 +10,7 @@ use borrow.Author.Tests.{not-true}
 use Rattle.base.specs.Pick.{pick}
 use Rattle.base.specs.Lists.{isEmpty, placeOf}
 use Rattle.base.specs.Among.{Among, here, later}
-use Rattle.base.proofs.Lists.{among-none, among-cons, keep-among, upTo-among, fold-keeps}
+use Rattle.base.proofs.Lists.{among-none, among-cons, keep-among, upTo-among}
 use Rattle.base.proofs.Members.{among-append, map-among, set-among}
 use Rattle.base.proofs.Tests.{both-true}
 use Rattle.rules.specs.Limits.{Limits}
@@ -20,9 +20,10 @@ use Rattle.rules.specs.Tokens.{TokenSet}
 use Rattle.rules.specs.Grammar.{Symbol, atStart, atEnd, isBefore, leftSides}
 use Rattle.rules.specs.First.{Sets}
 use Rattle.rules.specs.States.{eachInTurn, Entry, State, Outcome, done, refused, Follow, entryOf, closureSets, noSet, closure, kernelOver, sameKernel, symbols, lead, Expansion, addTransition, Collection, itemCount, expanded, expandNext, expandAll, statesFrom}
-use Rattle.rules.specs.Lanes.{Action, actionsAt, LaneTable, laneTable, allColumns, pairwiseDisjoint, rowsDisjoint, beachheads}
-use Rattle.rules.specs.Merge.{Merge, headOf, groupColumns, canJoin, joinGroups, clonesOf, cloneState, patchLinks, walkOn, joined, joinNew, firstJoining, withNew, joinSuccessor, walk, takeColumn, takeColumns, takeAll, mergeBegun, merged, split, resolveBy, resolve}
+use Rattle.rules.specs.Lanes.{Action, LaneTable, laneTable}
+use Rattle.rules.specs.Merge.{Merge, canJoin, joinGroups, clonesOf, cloneState, patchLinks, walkOn, joined, joinNew, firstJoining, withNew, joinSuccessor, walk, takeColumn, takeColumns, resolve}
 use Rattle.fuel.proofs.Outcomes.{Holds, holds-pick, holds-in-turn}
+use Rattle.fuel.proofs.Resolve.{resolve-keeps}
 use Rattle.fuel.proofs.Walk.{walk-keeps}
 
 module _ (g : Grammar) where
@@ -153,9 +154,11 @@ module _ (g : Grammar) where
   unfolding cloneState
   clone-recorded s m h = added-recorded (m .states) (getD (m .states) s []) h (at-recorded (m .states) s h)
 
-  take-recorded : (actions : List Action) (columns : List TokenSet) (state : State) → Recorded state → Recorded (takeColumns actions columns state)
+  take-all-recorded : (states : List State) (t : ℕ) (actions : List Action) (columns : List TokenSet) → AllRecorded states
+      → AllRecorded (set states t (takeColumns actions columns (getD states t [])))
   unfolding takeColumns takeColumn
-  take-recorded actions columns state h = same-items-recorded (takeColumn actions columns) (λ e. refl) state h
+  take-all-recorded states t actions columns h =
+      set-recorded states t _ h (same-items-recorded (takeColumn actions columns) (λ e. refl) (getD states t []) (at-recorded states t h))
 
   module _ (l : Limits) where
     new-recorded : (table : LaneTable) (s successor : ℕ) (m : Merge) → Kept m → Holds Kept (joinNew l g table s successor m)
@@ -185,43 +188,9 @@ module _ (g : Grammar) where
     walk-recorded table = walk-keeps l g table Kept (λ s m h. h) (λ m₀ s successor among m h. successor-recorded table s successor m h)
 
     -- ---- a visit
-    take-all-recorded : (table : LaneTable) (actions : List Action) (s : ℕ) (m : Merge) → Kept m → AllRecorded (takeAll table actions s m)
-    unfolding takeAll
-    take-all-recorded table actions s m h =
-        fold-keeps (λ t states. set states t (takeColumns actions (groupColumns table m (headOf m t)) (getD states t []))) AllRecorded (s ∷ clonesOf m s)
-        (λ t among states k. set-recorded states t _ k (take-recorded actions (groupColumns table m (headOf m t)) (getD states t []) (at-recorded states t k))) (m .states) h
-
-    merged-recorded : (table : LaneTable) (actions : List Action) (s : ℕ) (o : Outcome Merge) → Holds Kept o → Holds AllRecorded (merged table actions s o)
-    unfolding merged
-    merged-recorded table actions s (done m) h = take-all-recorded table actions s m h
-    merged-recorded table actions s (refused why) h = tt
-
-    begun-recorded : (states : List State) → AllRecorded states → Kept (mergeBegun states)
-    unfolding mergeBegun
-    begun-recorded states h = h
-
-    split-recorded : (states : List State) (s : ℕ) (actions : List Action) (table : LaneTable) → AllRecorded states → Holds AllRecorded (split l g states s actions table)
-    unfolding split
-    split-recorded states s actions table h =
-        holds-pick AllRecorded (rowsDisjoint table) _ _
-        (λ _. merged-recorded table actions s (eachInTurn (walk l g table (l .states + 1)) (beachheads table) (mergeBegun states))
-        (holds-in-turn Kept (walk l g table (l .states + 1)) (beachheads table) (λ s among m k. walk-recorded table (l .states + 1) s m k) (mergeBegun states) (begun-recorded states h)))
-        (λ _. tt)
-
-    resolve-by-recorded : (states : List State) (s : ℕ) (actions : List Action) (table : LaneTable) → AllRecorded states → Holds AllRecorded (resolveBy l g states s actions table)
-    unfolding resolveBy
-    resolve-by-recorded states s actions table h =
-        holds-pick AllRecorded (pairwiseDisjoint (allColumns table)) _ _
-        (λ _. set-recorded states s _ h (take-recorded actions (allColumns table) (getD states s []) (at-recorded states s h)))
-        (λ _. split-recorded states s actions table h)
-
     pub resolve-recorded : (sets : Sets) (s : ℕ) (states : List State) → AllRecorded states → Holds AllRecorded (resolve l g sets s states)
-    unfolding resolve
     resolve-recorded sets s states h =
-        let actions : List Action = actionsAt g (getD states s []) in
-        holds-pick AllRecorded (isEmpty actions) _ _ (λ _. h)
-        (λ _. holds-pick AllRecorded (ltb (l .actions) (length actions)) _ _ (λ _. tt)
-        (λ _. resolve-by-recorded states s actions (laneTable g sets states s actions) h))
+        resolve-keeps l g AllRecorded take-all-recorded sets s states (λ actions. walk-recorded (laneTable g sets states s actions) (l .states + 1)) h
 
   -- as the fuel of a trace asks it
   pub traces-recorded : (states : List State) → AllRecorded states → (s i : ℕ) → Among i (map (λ (e : Entry). e .item) (getD states s [])) → i < length g

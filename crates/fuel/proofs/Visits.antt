@@ -7,17 +7,16 @@ use native.Mathlib.Omega.{arith}
 use lib.ListN.{length, getD, set, length-set, length-replicate, replicate}
 use lib.Dec.{ltb}
 use borrow.Author.Tests.{ltb-true}
-use Rattle.base.specs.Lists.{isEmpty}
-use Rattle.base.proofs.Lists.{fold-keeps}
 use Rattle.rules.specs.Limits.{Limits}
 use Rattle.rules.specs.Records.{Grammar}
 use Rattle.rules.specs.Tokens.{TokenSet, single}
 use Rattle.rules.specs.Grammar.{atStart}
 use Rattle.rules.specs.First.{Sets}
-use Rattle.rules.specs.States.{eachInTurn, State, Outcome, done, refused}
-use Rattle.rules.specs.Lanes.{Action, shift, reduce, actionsAt, LaneTable, Trace, visit, addSuccessor, enter, unShift, unClose, traceAction, traceActions, laneTable, allColumns, pairwiseDisjoint, rowsDisjoint, beachheads}
-use Rattle.rules.specs.Merge.{Merge, clonesOf, headOf, groupColumns, walk, takeColumns, takeAll, mergeBegun, merged, split, resolveBy, resolve, resolveFrom}
-use Rattle.fuel.proofs.Outcomes.{Holds, holds-pick, holds-also, holds-in-turn}
+use Rattle.rules.specs.States.{State, Outcome, done, refused}
+use Rattle.rules.specs.Lanes.{Action, shift, reduce, LaneTable, Trace, visit, addSuccessor, enter, unShift, unClose, traceAction, traceActions, laneTable}
+use Rattle.rules.specs.Merge.{walk, takeColumns, resolve, resolveFrom}
+use Rattle.fuel.proofs.Outcomes.{Holds, holds-also}
+use Rattle.fuel.proofs.Resolve.{Walking, resolve-keeps}
 use Rattle.fuel.proofs.Trace.{Kept, both-keep}
 use Rattle.fuel.proofs.Walk.{Further, walk-further}
 
@@ -75,50 +74,18 @@ module _ (l : Limits) (g : Grammar) where
   abbrev Few : List State → Type 0
   Few states = length states ≤ l .states
 
-  take-few : (table : LaneTable) (actions : List Action) (s : ℕ) (m : Merge) → Few (m .states) → Few (takeAll table actions s m)
-  unfolding takeAll
-  take-few table actions s m h =
-      fold-keeps (λ t states. set states t (takeColumns actions (groupColumns table m (headOf m t)) (getD states t []))) Few (s ∷ clonesOf m s)
-      (λ t among states k. omega (arith, length-set states t (takeColumns actions (groupColumns table m (headOf m t)) (getD states t [])))) (m .states) h
+  take-few : (states : List State) (t : ℕ) (actions : List Action) (columns : List TokenSet) → Few states → Few (set states t (takeColumns actions columns (getD states t [])))
+  take-few states t actions columns h = omega (arith, length-set states t (takeColumns actions columns (getD states t [])))
 
-  begun-few : (states : List State) → Few states → Few (mergeBegun states .states)
-  unfolding mergeBegun
-  begun-few states h = h
-
-  merged-few : (table : LaneTable) (actions : List Action) (s : ℕ) (o : Outcome Merge) → Holds (λ m. Few (m .states)) o → Holds Few (merged table actions s o)
-  unfolding merged
-  merged-few table actions s (done m) h = take-few table actions s m h
-  merged-few table actions s (refused why) h = tt
-
-  module _ (table : LaneTable) (rows : length table ≤ l .states) where
-    walk-few : (s : ℕ) (m : Merge) → Few (m .states) → Holds (λ m. Few (m .states)) (walk l g table (l .states + 1) s m)
-    walk-few s m h =
-        holds-also (Further l g table rows 0) (λ m′. Few (m′ .states)) (λ m′ p. p .0) (walk l g table (l .states + 1) s m)
-        (walk-further l g table rows 0 (l .states + 1) s m (h, omega arith))
-
-    split-few : (states : List State) (s : ℕ) (actions : List Action) → Few states → Holds Few (split l g states s actions table)
-    unfolding split
-    split-few states s actions h =
-        holds-pick Few (rowsDisjoint table) _ _
-        (λ _. merged-few table actions s (eachInTurn (walk l g table (l .states + 1)) (beachheads table) (mergeBegun states))
-        (holds-in-turn (λ m. Few (m .states)) (walk l g table (l .states + 1)) (beachheads table) (λ s among m k. walk-few s m k) (mergeBegun states) (begun-few states h)))
-        (λ _. tt)
-
-    resolve-by-few : (states : List State) (s : ℕ) (actions : List Action) → Few states → Holds Few (resolveBy l g states s actions table)
-    unfolding resolveBy
-    resolve-by-few states s actions h =
-        holds-pick Few (pairwiseDisjoint (allColumns table)) _ _
-        (λ _. omega (arith, length-set states s (takeColumns actions (allColumns table) (getD states s []))))
-        (λ _. split-few states s actions h)
+  walk-few : (table : LaneTable) → length table ≤ l .states → Walking l g Few take-few table
+  walk-few table rows s m h =
+      holds-also (Further l g table rows 0) (λ m′. Few (m′ .states)) (λ m′ p. p .0) (walk l g table (l .states + 1) s m)
+      (walk-further l g table rows 0 (l .states + 1) s m (h, omega arith))
 
   resolve-few : (sets : Sets) (s : ℕ) (states : List State) → s < length states → Few states → Holds Few (resolve l g sets s states)
-  unfolding resolve
   resolve-few sets s states b h =
-      let actions : List Action = actionsAt g (getD states s []) in
-      let table : LaneTable = laneTable g sets states s actions in
-      holds-pick Few (isEmpty actions) _ _ (λ _. h)
-      (λ _. holds-pick Few (ltb (l .actions) (length actions)) _ _ (λ _. tt)
-      (λ _. resolve-by-few table (omega (arith, lane-table-rows g sets states s b actions)) states s actions h))
+      resolve-keeps l g Few take-few sets s states
+      (λ actions. walk-few (laneTable g sets states s actions) (omega (arith, lane-table-rows g sets states s b actions))) h
 
   -- ---- with fuel for one turn more than the limit leaves states, any larger fuel gives the same
   module _ (sets : Sets) where
