@@ -1,6 +1,6 @@
 -- What stands behind a dot, with its mark taken, and with a lookahead behind it.
 use Prim.Native.Nat.{ℕ, _≤_, _<_}
-use mathlib.Core.Path.{_≡_, refl, sym, _∙_}
+use mathlib.Core.Path.{_≡_, sym, ap, _∙_}
 use mathlib.Core.Bool.{Bool, true, false, not}
 use mathlib.Core.List.{List}
 use native.Mathlib.Omega.{arith}
@@ -9,26 +9,26 @@ use borrow.Author.Tests.{not-true, not-false}
 use Rattle.base.specs.Pick.{pick}
 use Rattle.rules.specs.Tokens.{TokenSet, has, join, without}
 use Rattle.rules.specs.Grammar.{Symbol}
-use Rattle.rules.specs.First.{Sets, first0, first1}
+use Rattle.rules.specs.First.{Sets, first0, beginning, mayBeEmpty, first1}
 use Rattle.room.specs.Areas.{Room, view}
 use Rattle.room.proofs.Lengths.{view-lengths}
 use Rattle.lookahead.specs.Sets.{setAt, putSet}
 use Rattle.lookahead.proofs.Slots.{put-there, put-elsewhere, put-again}
-use Rattle.first.specs.Firsts.{beginning, mayBeEmpty}
 use Rattle.sets.proofs.Joins.{without-none}
 
 module _ (n : ℕ) (sets : Sets) (xs : List Symbol) where
-  first1-tests : (l : TokenSet) → first1 n sets xs l ≡ pick (has (first0 n sets xs) n) (join (without (first0 n sets xs) n) l) (first0 n sets xs)
-  unfolding first1
-  first1-tests l = refl
-
   first1-empty : (l : TokenSet) → mayBeEmpty n sets xs ≡ true → first1 n sets xs l ≡ join (beginning n sets xs) l
+  unfolding first1
+  first1-empty l e = rw e
+
+  -- a suffix that cannot be empty has no mark to drop
+  unmarked : mayBeEmpty n sets xs ≡ false → first0 n sets xs ≡ beginning n sets xs
   unfolding mayBeEmpty beginning
-  first1-empty l e = first1-tests l ∙ rw e
+  unmarked e = sym (without-none (first0 n sets xs) n e)
 
   first1-begun : (l : TokenSet) → mayBeEmpty n sets xs ≡ false → first1 n sets xs l ≡ beginning n sets xs
-  unfolding mayBeEmpty beginning
-  first1-begun l e = first1-tests l ∙ rw e (sym (without-none (first0 n sets xs) n e))
+  unfolding first1
+  first1-begun l e = ap (λ (empty : Bool). pick empty (join (beginning n sets xs) l) (first0 n sets xs)) e ∙ unmarked e
 
   module _ (slot : ℕ) (w : List ℕ) (fits : 8192 ≤ length w) (low : slot < 4224) (p : Room) where
     there : (s : TokenSet) → p ≡ putSet slot s (view w) → setAt p slot ≡ s

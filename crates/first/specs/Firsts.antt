@@ -20,13 +20,6 @@ loads b (suc m) words = loadSet words b ∷ loads (suc b) m words
 abbrev pub firstsIn : Grammar → Room → Sets
 firstsIn g r = loads 0 (nonterminalCount g) (r .sets)
 
--- ---- what stands behind a dot: the terminals that can begin it, and whether it derives the empty string
-unfoldable pub beginning : ℕ → Sets → List Symbol → TokenSet
-beginning n sets xs = without (first0 n sets xs) n
-
-unfoldable pub mayBeEmpty : ℕ → Sets → List Symbol → Bool
-mayBeEmpty n sets xs = has (first0 n sets xs) n
-
 -- ---- one symbol on the way along them: what was collected with what can begin it, and whether the symbols behind it count too
 unfoldable pub joinSymbol : ℕ → Sets → TokenSet → Symbol → TokenSet
 joinSymbol n sets found (terminal t) = join found (single t)

@@ -13,14 +13,15 @@ use lib.Dec.{eqb}
 use Rattle.base.specs.Pick.{pick}
 use Rattle.base.specs.Lists.{upTo, sum, eachOf}
 use Rattle.base.specs.Among.{Among, here, later}
-use Rattle.base.proofs.Lists.{among-none, among-cons, after-set, set-same, set-past, fold-keeps, sum-set, sum-le}
+use Rattle.base.proofs.Lists.{among-none, among-cons, among-at, after-set, set-same, set-past, fold-keeps, sum-set, sum-le}
+use Rattle.base.proofs.Places.{each-places}
 use Rattle.base.proofs.Until.{Steps, round-adds, round-rests, rounds-end}
 use Rattle.rules.specs.Records.{Grammar}
 use Rattle.rules.specs.Tokens.{TokenSet, join, within, eof}
 use Rattle.rules.specs.Grammar.{terminalCount}
 use Rattle.rules.specs.First.{Sets, firstSets}
-use Rattle.rules.specs.States.{Entry, State, itemCount}
-use Rattle.rules.specs.FinalCheck.{withSet, haveSet, giveSet, haveAt, giveAt, movesOn, closes, closing, behindDot, satisfied, satisfy, satisfyState, leastSettled, leastRound, leastBegun, leastSets}
+use Rattle.rules.specs.States.{Entry, State, closes, handsOn, itemCount}
+use Rattle.rules.specs.FinalCheck.{withSet, haveSet, giveSet, haveAt, giveAt, entryAt, moves, isBehindDot, closing, entryMoved, entryClosed, entrySettled, moveEntry, closeEntry, settleEntry, settleState, leastSettled, leastRound, leastBegun, leastSets}
 use Rattle.sets.specs.Size.{size}
 use Rattle.sets.proofs.Laws.{none-below, single-below, join-below, join-within, within-join, size-le, size-within, size-grows}
 use Rattle.knuth.proofs.Closures.{first1-narrow}
@@ -145,6 +146,34 @@ module _ (n : ℕ) where
       by-test true e = rw (give-at-rests s test tokens least e) (omega arith)
       by-test false e = omega (arith, give-at-adds s test tokens b least e)
 
+  -- ---- tokens that are given if a test holds
+  module _ (b : Bool) (s : ℕ) (test : ℕ → Bool) (tokens : TokenSet) where
+    abbrev given : List State → List State
+    given least = pick b (giveAt s test tokens least) least
+
+    abbrev have : List State → Bool
+    have least = not b || haveAt least s test tokens
+
+  given-keeps : (b : Bool) (s : ℕ) (test : ℕ → Bool) (tokens : TokenSet) → tokens < 2 ^ (n + 1) → (states least : List State) → Keeps states least
+      → Keeps states (given b s test tokens least)
+  given-keeps true s test tokens small states least kept = give-at-keeps s test tokens small states least kept
+  given-keeps false s test tokens small states least kept = kept
+
+  given-rests : (b : Bool) (s : ℕ) (test : ℕ → Bool) (tokens : TokenSet) (least : List State) → have b s test tokens least ≡ true
+      → given b s test tokens least ≡ least
+  given-rests true s test tokens least h = give-at-rests s test tokens least h
+  given-rests false s test tokens least h = refl
+
+  given-adds : (b : Bool) (s : ℕ) (test : ℕ → Bool) (tokens : TokenSet) → tokens < 2 ^ (n + 1) → (least : List State) → have b s test tokens least ≡ false
+      → leastMass least < leastMass (given b s test tokens least)
+  given-adds true s test tokens small least h = give-at-adds s test tokens small least h
+  given-adds false s test tokens small least h = absurd (true≢false h)
+
+  given-stays : (b : Bool) (s : ℕ) (test : ℕ → Bool) (tokens : TokenSet) → tokens < 2 ^ (n + 1) → (least : List State)
+      → leastMass least ≤ leastMass (given b s test tokens least)
+  given-stays true s test tokens small least = give-at-mass s test tokens small least
+  given-stays false s test tokens small least = omega arith
+
   -- ---- sets that are all empty
   emptied-small : (state : State) → Small (map (withSet 0) state)
   emptied-small [] e m = absurd (among-none m)
@@ -171,81 +200,95 @@ module _ (g : Grammar) (states : List State) where
   abbrev sets : Sets
   sets = firstSets g
 
-  abbrev moved : Entry → Bool → List State → List State
-  moved e b least = pick b (giveAt (e .next) (eqb (e .item + 1)) (e .set) least) least
-
-  abbrev closed : ℕ → Entry → Bool → List State → List State
-  closed s e b least = pick b (giveAt s (behindDot g e) (closing g sets e) least) least
-
   closing-below : (e : Entry) → e .set < 2 ^ (n + 1) → closing g sets e < 2 ^ (n + 1)
-  unfolding closing
+  unfolding closing handsOn
   closing-below e b = first1-narrow g (e .item + 1) (e .set) b
 
-  module _ (s : ℕ) (e : Entry) (b : e .set < 2 ^ (n + 1)) where
-    moved-keeps : (d : Bool) (least : List State) → Keeps n states least → Keeps n states (moved e d least)
-    moved-keeps true least k = give-at-keeps n (e .next) (eqb (e .item + 1)) (e .set) b states least k
-    moved-keeps false least k = k
+  -- ---- entry k of state s hands on, with the set that it has by now
+  module _ (s k : ℕ) (least : List State) (kept : Keeps n states least) where
+    abbrev e : Entry
+    e = entryAt least s k
 
-    closed-keeps : (d : Bool) (least : List State) → Keeps n states least → Keeps n states (closed s e d least)
-    closed-keeps true least k = give-at-keeps n s (behindDot g e) (closing g sets e) (closing-below e b) states least k
-    closed-keeps false least k = k
+    entry-small : e .set < 2 ^ (n + 1)
+    unfolding entryAt
+    entry-small = elim (decLe (length (getD least s [])) k) [
+      | yes p ↦ rw (List·getD-eq-default (getD least s []) (record { item = 0; next = 0; set = 0 }) p) (none-below (n + 1))
+      | no p ↦ kept .small s e (among-at (getD least s []) k _ (omega arith))
+    ]
 
-    satisfy-keeps : (least : List State) → Keeps n states least → Keeps n states (satisfy g sets s e least)
-    unfolding satisfy
-    satisfy-keeps least k = closed-keeps (closes g e) (moved e (movesOn g e) least) (moved-keeps (movesOn g e) least k)
+    move-keeps : Keeps n states (moveEntry g sets s k least)
+    unfolding moveEntry
+    move-keeps = given-keeps n (moves g e) (e .next) (eqb (e .item + 1)) (e .set) entry-small states least kept
 
-    moved-rests : (d : Bool) (least : List State) → (not d || haveAt least (e .next) (eqb (e .item + 1)) (e .set)) ≡ true → moved e d least ≡ least
-    moved-rests true least h = give-at-rests n (e .next) (eqb (e .item + 1)) (e .set) least h
-    moved-rests false least h = refl
+    close-keeps : Keeps n states (closeEntry g sets s k least)
+    unfolding closeEntry
+    close-keeps = given-keeps n (closes g (e .item) (e .set)) s (isBehindDot g (e .item)) (closing g sets e) (closing-below e entry-small) states least kept
 
-    closed-rests : (d : Bool) (least : List State) → (not d || haveAt least s (behindDot g e) (closing g sets e)) ≡ true → closed s e d least ≡ least
-    closed-rests true least h = give-at-rests n s (behindDot g e) (closing g sets e) least h
-    closed-rests false least h = refl
+    move-rests : entryMoved g sets least e ≡ true → moveEntry g sets s k least ≡ least
+    unfolding moveEntry entryMoved
+    move-rests h = given-rests n (moves g e) (e .next) (eqb (e .item + 1)) (e .set) least h
 
-    satisfy-rests : (least : List State) → satisfied g sets least s e ≡ true → satisfy g sets s e least ≡ least
-    unfolding satisfy satisfied
-    satisfy-rests least h =
-        let (p, q) = and-eq-true-iff (not (movesOn g e) || haveAt least (e .next) (eqb (e .item + 1)) (e .set)) _ .0 h in
-        ap (closed s e (closes g e)) (moved-rests (movesOn g e) least p) ∙ closed-rests (closes g e) least q
+    close-rests : entryClosed g sets least s e ≡ true → closeEntry g sets s k least ≡ least
+    unfolding closeEntry entryClosed
+    close-rests h = given-rests n (closes g (e .item) (e .set)) s (isBehindDot g (e .item)) (closing g sets e) least h
 
-    moved-adds : (d : Bool) (least : List State) → (not d || haveAt least (e .next) (eqb (e .item + 1)) (e .set)) ≡ false → leastMass n least < leastMass n (moved e d least)
-    moved-adds true least h = give-at-adds n (e .next) (eqb (e .item + 1)) (e .set) b least h
-    moved-adds false least h = absurd (true≢false h)
+    move-adds : entryMoved g sets least e ≡ false → leastMass n least < leastMass n (moveEntry g sets s k least)
+    unfolding moveEntry entryMoved
+    move-adds h = given-adds n (moves g e) (e .next) (eqb (e .item + 1)) (e .set) entry-small least h
 
-    closed-adds : (d : Bool) (least : List State) → (not d || haveAt least s (behindDot g e) (closing g sets e)) ≡ false → leastMass n least < leastMass n (closed s e d least)
-    closed-adds true least h = give-at-adds n s (behindDot g e) (closing g sets e) (closing-below e b) least h
-    closed-adds false least h = absurd (true≢false h)
+    close-adds : entryClosed g sets least s e ≡ false → leastMass n least < leastMass n (closeEntry g sets s k least)
+    unfolding closeEntry entryClosed
+    close-adds h = given-adds n (closes g (e .item) (e .set)) s (isBehindDot g (e .item)) (closing g sets e) (closing-below e entry-small) least h
 
-    closed-mass : (d : Bool) (least : List State) → leastMass n least ≤ leastMass n (closed s e d least)
-    closed-mass true least = give-at-mass n s (behindDot g e) (closing g sets e) (closing-below e b) least
-    closed-mass false least = omega arith
+    close-mass : leastMass n least ≤ leastMass n (closeEntry g sets s k least)
+    unfolding closeEntry
+    close-mass = given-stays n (closes g (e .item) (e .set)) s (isBehindDot g (e .item)) (closing g sets e) (closing-below e entry-small) least
 
-    satisfy-adds : (least : List State) → satisfied g sets least s e ≡ false → leastMass n least < leastMass n (satisfy g sets s e least)
-    unfolding satisfy satisfied
-    satisfy-adds least h = by-moved (not (movesOn g e) || haveAt least (e .next) (eqb (e .item + 1)) (e .set)) refl h
+  module _ (s k : ℕ) (least : List State) (kept : Keeps n states least) where
+    abbrev moved : List State
+    moved = moveEntry g sets s k least
+
+    settle-keeps : Keeps n states (settleEntry g sets s k least)
+    unfolding settleEntry
+    settle-keeps = close-keeps s k moved (move-keeps s k least kept)
+
+    settle-rests : entrySettled g sets least s (entryAt least s k) ≡ true → settleEntry g sets s k least ≡ least
+    unfolding settleEntry entrySettled
+    settle-rests h =
+        let (p, q) = and-eq-true-iff (entryMoved g sets least (entryAt least s k)) _ .0 h in
+        ap (closeEntry g sets s k) (move-rests s k least kept p) ∙ close-rests s k least kept q
+
+    settle-adds : entrySettled g sets least s (entryAt least s k) ≡ false → leastMass n least < leastMass n (settleEntry g sets s k least)
+    unfolding settleEntry entrySettled
+    settle-adds h = by-moved (entryMoved g sets least (entryAt least s k)) refl h
       where
-        by-moved : (d : Bool) → (not (movesOn g e) || haveAt least (e .next) (eqb (e .item + 1)) (e .set)) ≡ d
-            → (d && (not (closes g e) || haveAt least s (behindDot g e) (closing g sets e))) ≡ false
-            → leastMass n least < leastMass n (closed s e (closes g e) (moved e (movesOn g e) least))
-        by-moved true p h = rw (moved-rests (movesOn g e) least p) (closed-adds (closes g e) least h)
-        by-moved false p h = omega (arith, moved-adds (movesOn g e) least p, closed-mass (closes g e) (moved e (movesOn g e) least))
+        by-moved : (d : Bool) → entryMoved g sets least (entryAt least s k) ≡ d → (d && entryClosed g sets least s (entryAt least s k)) ≡ false
+            → leastMass n least < leastMass n (closeEntry g sets s k moved)
+        by-moved true p h = rw (move-rests s k least kept p) (close-adds s k least kept h)
+        by-moved false p h = omega (arith, move-adds s k least kept p, close-mass s k moved (move-keeps s k least kept))
 
   -- ---- the entries of one state, and then all states
-  entry-steps : (s : ℕ) (entries : State) → Small n entries
-      → Steps (satisfy g sets s) (λ e least. satisfied g sets least s e) (leastMass n) (Keeps n states) entries
-  entry-steps s entries small = record {
-    keeps = λ e m least k. satisfy-keeps s e (small e m) least k;
-    rests = λ e m least k h. satisfy-rests s e (small e m) least h;
-    adds = λ e m least k h. satisfy-adds s e (small e m) least h;
-  }
+  abbrev settledAt : ℕ → ℕ → List State → Bool
+  settledAt s k least = entrySettled g sets least s (entryAt least s k)
 
-  state-steps : Steps (satisfyState g sets) (λ s least. eachOf (satisfied g sets least s) (getD least s [])) (leastMass n) (Keeps n states) (upTo (length states))
-  unfolding satisfyState
+  entry-steps : (s : ℕ) (places : List ℕ) → Steps (settleEntry g sets s) (settledAt s) (leastMass n) (Keeps n states) places
+  entry-steps s places = record { keeps = λ k m. settle-keeps s k; rests = λ k m. settle-rests s k; adds = λ k m. settle-adds s k }
+
+  each-settled : (s : ℕ) (least : List State)
+      → eachOf (λ k. settledAt s k least) (upTo (length (getD least s []))) ≡ eachOf (entrySettled g sets least s) (getD least s [])
+  unfolding entryAt
+  each-settled s least = each-places (entrySettled g sets least s) (getD least s []) _
+
+  state-steps : Steps (settleState g sets) (λ s least. eachOf (entrySettled g sets least s) (getD least s [])) (leastMass n) (Keeps n states) (upTo (length states))
+  unfolding settleState
   state-steps = record {
-    keeps = λ s m least k. fold-keeps (satisfy g sets s) (Keeps n states) (getD least s []) (entry-steps s (getD least s []) (k .small s) .keeps) least k;
-    rests = λ s m least k h. round-rests (satisfy g sets s) (λ e least. satisfied g sets least s e) (leastMass n) (Keeps n states) (getD least s []) (entry-steps s (getD least s []) (k .small s)) least k h;
-    adds = λ s m least k h. round-adds (satisfy g sets s) (λ e least. satisfied g sets least s e) (leastMass n) (Keeps n states) (getD least s []) (entry-steps s (getD least s []) (k .small s)) least k h;
+    keeps = λ s m least kept. fold-keeps (settleEntry g sets s) (Keeps n states) (places s least) (entry-steps s (places s least) .keeps) least kept;
+    rests = λ s m least kept h. round-rests (settleEntry g sets s) (settledAt s) (leastMass n) (Keeps n states) (places s least) (entry-steps s (places s least)) least kept (each-settled s least ∙ h);
+    adds = λ s m least kept h. round-adds (settleEntry g sets s) (settledAt s) (leastMass n) (Keeps n states) (places s least) (entry-steps s (places s least)) least kept (each-settled s least ∙ h);
   }
+    where
+      places : ℕ → List State → List ℕ
+      places s least = upTo (length (getD least s []))
 
   mass-bounded : (least : List State) → Keeps n states least → leastMass n least ≤ itemCount states * (n + 1)
   mass-bounded least k = omega (arith, least-mass-le n least, ap (λ (i : ℕ). i * (n + 1)) (k .items))
@@ -258,5 +301,5 @@ module _ (g : Grammar) (states : List State) where
   pub least-settled : leastSettled g sets (length states) (leastSets g sets states) ≡ true
   unfolding leastSettled leastSets leastRound
   least-settled =
-      rounds-end (satisfyState g sets) (λ s least. eachOf (satisfied g sets least s) (getD least s [])) (leastMass n) (Keeps n states) (upTo (length states)) state-steps
+      rounds-end (settleState g sets) (λ s least. eachOf (entrySettled g sets least s) (getD least s [])) (leastMass n) (Keeps n states) (upTo (length states)) state-steps
       (itemCount states * (n + 1)) mass-bounded (itemCount states * (n + 1)) (leastBegun g states) begun-keeps (omega arith)

@@ -16,12 +16,12 @@ use Rattle.base.proofs.Tests.{both-true}
 use Rattle.rules.specs.Limits.{Limits}
 use Rattle.rules.proofs.Laws.{not-at-end-within}
 use Rattle.rules.specs.Records.{Grammar}
-use Rattle.rules.specs.Tokens.{TokenSet}
+use Rattle.rules.specs.Tokens.{TokenSet, isEmptySet}
 use Rattle.rules.specs.Grammar.{Symbol, atStart, atEnd, isBefore, leftSides}
 use Rattle.rules.specs.First.{Sets}
-use Rattle.rules.specs.States.{eachInTurn, Entry, State, Outcome, done, refused, Follow, entryOf, closureSets, noSet, closure, kernelOver, sameKernel, symbols, lead, Expansion, addTransition, Collection, itemCount, expanded, expandNext, expandAll, statesFrom}
+use Rattle.rules.specs.States.{eachInTurn, Entry, State, Outcome, done, refused, Follow, entryOf, closureSets, closure, kernelOver, sameKernel, symbols, lead, Expansion, addTransition, Collection, itemCount, expanded, expandNext, expandAll, statesFrom}
 use Rattle.rules.specs.Lanes.{Action, LaneTable, laneTable}
-use Rattle.rules.specs.Merge.{Merge, canJoin, joinGroups, clonesOf, cloneState, patchLinks, walkOn, joined, joinNew, firstJoining, withNew, joinSuccessor, walk, takeColumn, takeColumns, resolve}
+use Rattle.rules.specs.Merge.{Merge, canJoin, joinGroups, clonesOf, cloneState, patchLinks, markWalked, joined, joinNew, placeJoining, withNew, joinSuccessor, walk, takeColumn, takeColumns, resolve}
 use Rattle.fuel.proofs.Outcomes.{Holds, holds-pick, holds-in-turn}
 use Rattle.fuel.proofs.Resolve.{resolve-keeps}
 use Rattle.fuel.proofs.Walk.{walk-keeps}
@@ -55,7 +55,7 @@ module _ (g : Grammar) where
   unfolding closure entryOf
   closure-recorded follow kernel h e m =
       ⊎-elim (h e)
-      (λ k. let (j, _) = keep-among (λ (e : Entry). not (noSet (e .set))) _ k in
+      (λ k. let (j, _) = keep-among (λ (e : Entry). not (isEmptySet (e .set))) _ k in
       let (i, p, q) = map-among (entryOf g (closureSets g follow kernel)) (leftSides g) j in
       rw q (left-side-within i p))
       (among-append kernel m)
@@ -179,12 +179,12 @@ module _ (g : Grammar) where
     unfolding joinSuccessor
     successor-recorded table s successor m h =
         let choices : List ℕ = successor ∷ clonesOf m successor in
-        let k : ℕ = firstJoining table m s choices in
+        let k : ℕ = placeJoining table m s choices in
         holds-pick (λ j. Kept (j .merge)) (ltb k (length choices)) _ _ (λ _. joined-recorded s successor (getD choices k 0) m h)
         (λ _. with-new-recorded (length (m .states)) (joinNew l g table s successor m) (new-recorded table s successor m h))
 
     walk-recorded : (table : LaneTable) (fuel s : ℕ) (m : Merge) → Kept m → Holds Kept (walk l g table fuel s m)
-    unfolding walkOn
+    unfolding markWalked
     walk-recorded table = walk-keeps l g table Kept (λ s m h. h) (λ m₀ s successor among m h. successor-recorded table s successor m h)
 
     -- ---- a visit

@@ -11,7 +11,7 @@ use Rattle.rules.specs.Tokens.{TokenSet}
 use Rattle.rules.specs.First.{Sets}
 use Rattle.rules.specs.States.{State, Outcome, done, refused, eachInTurn}
 use Rattle.rules.specs.Lanes.{Action, actionsAt, LaneTable, laneTable, allColumns, pairwiseDisjoint, rowsDisjoint, beachheads}
-use Rattle.rules.specs.Merge.{Merge, clonesOf, headOf, groupColumns, walk, takeColumns, takeAll, mergeBegun, merged, split, resolveBy, resolve}
+use Rattle.rules.specs.Merge.{Merge, clonesOf, headOf, groupColumns, walk, takeColumns, takeAll, mergeBegun, merged, mergeRows, resolveBy, resolve}
 use Rattle.fuel.proofs.Outcomes.{Holds, holds-pick, holds-in-turn}
 
 module _ (l : Limits) (g : Grammar) (P : List State → Type 0)
@@ -38,9 +38,9 @@ module _ (l : Limits) (g : Grammar) (P : List State → Type 0)
   unfolding mergeBegun
   begun-keeps states h = h
 
-  split-keeps : (table : LaneTable) → Walking table → (states : List State) (s : ℕ) (actions : List Action) → P states → Holds P (split l g states s actions table)
-  unfolding split
-  split-keeps table walking states s actions h =
+  merge-rows-keeps : (table : LaneTable) → Walking table → (states : List State) (s : ℕ) (actions : List Action) → P states → Holds P (mergeRows l g states s actions table)
+  unfolding mergeRows
+  merge-rows-keeps table walking states s actions h =
       holds-pick P (rowsDisjoint table) _ _
       (λ _. merged-keeps table actions s (eachInTurn (walk l g table (l .states + 1)) (beachheads table) (mergeBegun states))
       (holds-in-turn Kept (walk l g table (l .states + 1)) (beachheads table) (λ s among m k. walking s m k) (mergeBegun states) (begun-keeps states h)))
@@ -50,7 +50,7 @@ module _ (l : Limits) (g : Grammar) (P : List State → Type 0)
   unfolding resolveBy
   resolve-by-keeps table walking states s actions h =
       holds-pick P (pairwiseDisjoint (allColumns table)) _ _ (λ _. taking states s actions (allColumns table) h)
-      (λ _. split-keeps table walking states s actions h)
+      (λ _. merge-rows-keeps table walking states s actions h)
 
   pub resolve-keeps : (sets : Sets) (s : ℕ) (states : List State) → ((actions : List Action) → Walking (laneTable g sets states s actions)) → P states
       → Holds P (resolve l g sets s states)

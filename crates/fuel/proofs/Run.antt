@@ -10,7 +10,8 @@ use lib.Dec.{eqb, leb}
 use borrow.Author.Tests.{leb-false}
 use Rattle.base.specs.Pick.{pick}
 use Rattle.rules.specs.Records.{Grammar}
-use Rattle.rules.specs.Run.{Act, shift, reduce, noAct, Table, Standing, Moved, goes, ends, RunResult, shifted, reduced, listFull, stackFull, sideLength, productionLeft, tokenAt, stateUnder, moveShift, moveGoto, moveEnd, moveReduce, moveBy, move, answered, runFrom}
+use Rattle.rules.specs.Grammar.{leftOf}
+use Rattle.rules.specs.Run.{Act, shift, reduce, noAct, Table, Standing, Moved, goes, ends, RunResult, shifted, reduced, listFull, stackFull, sideLength, tokenAt, stateUnder, moveShift, moveGoto, moveEnd, moveReduce, moveBy, move, answered, runFrom}
 use Rattle.rules.specs.declared.RunEnd.the-variants.{StepLimit}
 
 module _ {S : Type 0} (table : Table S) (g : Grammar) (tokens : List ℕ) (limit : ℕ) where
@@ -37,7 +38,7 @@ module _ {S : Type 0} (table : Table S) (g : Grammar) (tokens : List ℕ) (limit
   step-reduce zero s = step-by-test s (eqb (s .place) (length tokens) && eqb (s .depth) (sideLength g 0 + 1)) _ _ (step-by-test s (listFull s) _ _ tt tt) tt
   step-reduce (suc p) s =
       step-by-test s (leb (s .depth) (sideLength g (suc p))) _ _ tt
-      (step-goto (suc p) (table .goto (stateUnder table (sideLength g (suc p)) s) (productionLeft g (suc p))) s)
+      (step-goto (suc p) (table .goto (stateUnder table (sideLength g (suc p)) s) (leftOf g (suc p))) s)
 
   step-by : (a : Act S) (s : Standing S) → OneStep s (moveBy table g tokens limit a s)
   unfolding moveBy moveShift

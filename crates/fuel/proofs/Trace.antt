@@ -18,7 +18,7 @@ use Rattle.rules.specs.Tokens.{TokenSet, single, join, eof}
 use Rattle.rules.specs.Grammar.{symbolOf, atStart, start, terminalCount}
 use Rattle.rules.specs.First.{Sets}
 use Rattle.rules.specs.States.{Entry, State}
-use Rattle.rules.specs.Lanes.{Trace, onTable, wasVisited, visit, addSuccessor, enter, predecessors, itemsBefore, mayBeEmpty, tokensPast, enterStart, unShift, unClose}
+use Rattle.rules.specs.Lanes.{Trace, onTable, wasVisited, visit, addSuccessor, enter, predecessors, itemsBefore, emptyPast, tokensPast, enterStart, unShift, unClose}
 use Rattle.sets.specs.Size.{size}
 use Rattle.sets.proofs.Laws.{has-false, has-join, has-single, within-join, size-le, size-within, size-strict}
 
@@ -92,7 +92,7 @@ module _ (g : Grammar) (sets : Sets) (states : List State) (c : ℕ) where
   un-closed fuel s i trace b = elim b [
     | true ↦ trace
     | false ↦
-        foldOver (λ j trace. to-item fuel s j trace (mayBeEmpty g sets j) (atStart g j)) (itemsBefore g states s (at g i .symbol))
+        foldOver (λ j trace. to-item fuel s j trace (emptyPast g sets j) (atStart g j)) (itemsBefore g states s (at g i .symbol))
         (enterStart g s c i (visit s i trace))
   ]
 
@@ -136,8 +136,8 @@ module _ (g : Grammar) (sets : Sets) (states : List State) (c : ℕ) where
     closed-keeps : (fuel : ℕ) → BothKeep fuel → (s i : ℕ) (trace : Trace) (b : Bool) → s < length states → P trace → P (un-closed fuel s i trace b)
     closed-keeps fuel both s i trace true q h = h
     closed-keeps fuel both s i trace false q h =
-        fold-keeps (λ j trace. to-item fuel s j trace (mayBeEmpty g sets j) (atStart g j)) P (itemsBefore g states s (at g i .symbol))
-        (λ j among t k. item-keeps fuel both s j t (mayBeEmpty g sets j) (atStart g j) q k)
+        fold-keeps (λ j trace. to-item fuel s j trace (emptyPast g sets j) (atStart g j)) P (itemsBefore g states s (at g i .symbol))
+        (λ j among t k. item-keeps fuel both s j t (emptyPast g sets j) (atStart g j) q k)
         (enterStart g s c i (visit s i trace)) (start-keeps s i (visit s i trace) (kept .visiting s i trace q h))
 
     pub both-keep : (fuel : ℕ) → BothKeep fuel
@@ -199,10 +199,10 @@ module _ (g : Grammar) (sets : Sets) (states : List State) (c : ℕ) where
         → Further (length states * length g - suc fuel) trace → un-closed (suc larger) s i trace b ≡ un-closed (suc fuel) s i trace b
     closed-agree fuel larger both s i trace true e q r h = refl
     closed-agree fuel larger both s i trace false e q r h =
-        fold-same (Further (length states * length g - fuel)) (λ j trace. to-item (suc larger) s j trace (mayBeEmpty g sets j) (atStart g j))
-        (λ j trace. to-item (suc fuel) s j trace (mayBeEmpty g sets j) (atStart g j)) (itemsBefore g states s (at g i .symbol))
-        (λ j among t k. item-agrees fuel larger both s j t (mayBeEmpty g sets j) (atStart g j) q (item-recorded recorded s (at g i .symbol) j among) k)
-        (λ j among t k. item-keeps (Further (length states * length g - fuel)) (further-kept _) (suc fuel) (both-keep (Further (length states * length g - fuel)) (further-kept _) (suc fuel)) s j t (mayBeEmpty g sets j) (atStart g j) q k)
+        fold-same (Further (length states * length g - fuel)) (λ j trace. to-item (suc larger) s j trace (emptyPast g sets j) (atStart g j))
+        (λ j trace. to-item (suc fuel) s j trace (emptyPast g sets j) (atStart g j)) (itemsBefore g states s (at g i .symbol))
+        (λ j among t k. item-agrees fuel larger both s j t (emptyPast g sets j) (atStart g j) q (item-recorded recorded s (at g i .symbol) j among) k)
+        (λ j among t k. item-keeps (Further (length states * length g - fuel)) (further-kept _) (suc fuel) (both-keep (Further (length states * length g - fuel)) (further-kept _) (suc fuel)) s j t (emptyPast g sets j) (atStart g j) q k)
         (enterStart g s c i (visit s i trace)) (start-keeps (Further (length states * length g - fuel)) (further-kept _) s i (visit s i trace) (visited-left fuel s i trace q r e h))
 
     both-agree : (fuel larger : ℕ) → fuel ≤ larger → BothAgree fuel larger

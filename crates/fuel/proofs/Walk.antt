@@ -18,23 +18,23 @@ use Rattle.rules.specs.Records.{Grammar}
 use Rattle.rules.specs.Tokens.{has, single, join}
 use Rattle.rules.specs.States.{eachInTurn, Outcome, done, refused, itemCount}
 use Rattle.rules.specs.Lanes.{LaneTable}
-use Rattle.rules.specs.Merge.{Merge, canJoin, joinGroups, clonesOf, cloneState, patchLinks, walkOn, joined, joinNew, firstJoining, Joining, withNew, joinSuccessor, successorsOf, walk}
+use Rattle.rules.specs.Merge.{Merge, canJoin, joinGroups, clonesOf, cloneState, patchLinks, markWalked, joined, joinNew, placeJoining, Joining, withNew, joinSuccessor, successorsOf, walk}
 use Rattle.sets.specs.Size.{size}
 use Rattle.sets.proofs.Laws.{has-false, has-join, has-single, within-join, size-le, size-within, size-strict}
 use Rattle.fuel.proofs.Outcomes.{Holds, holds-pick, holds-also, holds-in-turn, same-in-turn}
 
 module _ (l : Limits) (g : Grammar) (table : LaneTable) where
   abbrev stepped : ℕ → Outcome Joining → Outcome Merge
-  stepped fuel o = elim o [ done j ↦ walk l g table fuel (j .with) (j .merge) | refused why ↦ refused why ]
+  stepped fuel o = elim o [ done j ↦ walk l g table fuel (j .state) (j .merge) | refused why ↦ refused why ]
 
   abbrev walked-by : ℕ → ℕ → Merge → Bool → Outcome Merge
   walked-by fuel s m b = elim b [
     | true ↦ done m
-    | false ↦ eachInTurn (λ successor m. stepped fuel (joinSuccessor l g table s successor m)) (successorsOf table m s) (walkOn s m)
+    | false ↦ eachInTurn (λ successor m. stepped fuel (joinSuccessor l g table s successor m)) (successorsOf table m s) (markWalked s m)
   ]
 
   -- what joining a successor and marking a state keep, a walk keeps
-  module _ (P : Merge → Type 0) (marking : (s : ℕ) (m : Merge) → P m → P (walkOn s m))
+  module _ (P : Merge → Type 0) (marking : (s : ℕ) (m : Merge) → P m → P (markWalked s m))
       (joining : (m₀ : Merge) (s successor : ℕ) → Among successor (successorsOf table m₀ s) → (m : Merge) → P m → Holds (λ j. P (j .merge)) (joinSuccessor l g table s successor m)) where
     pub walk-keeps : (fuel s : ℕ) (m : Merge) → P m → Holds P (walk l g table fuel s m)
     unfolding walk
@@ -45,7 +45,7 @@ module _ (l : Limits) (g : Grammar) (table : LaneTable) where
         Later = (s : ℕ) (m : Merge) → P m → Holds P (walk l g table fuel s m)
 
         by-joining : (o : Outcome Joining) → Holds (λ j. P (j .merge)) o → Later → Holds P (stepped fuel o)
-        by-joining (done j) p more = more (j .with) (j .merge) p
+        by-joining (done j) p more = more (j .state) (j .merge) p
         by-joining (refused why) p more = tt
 
         by-test : (b : Bool) → Later → Holds P (walked-by fuel s m b)
@@ -53,7 +53,7 @@ module _ (l : Limits) (g : Grammar) (table : LaneTable) where
         by-test false more =
             holds-in-turn P (λ successor m. stepped fuel (joinSuccessor l g table s successor m)) (successorsOf table m s)
             (λ successor among m′ p′. by-joining (joinSuccessor l g table s successor m′) (joining m s successor among m′ p′) more)
-            (walkOn s m) (marking s m p)
+            (markWalked s m) (marking s m p)
 
 module _ (l : Limits) (g : Grammar) (table : LaneTable) (rows : length table ≤ l .states) where
   abbrev pub Fits : Merge → Type 0
@@ -77,7 +77,7 @@ module _ (l : Limits) (g : Grammar) (table : LaneTable) (rows : length table ≤
       by-test false = record { fits = rw (length-set (m .states) s) h; same = refl }
 
   abbrev Placed : Merge → Joining → Type 0
-  Placed m j = (j .with < l .states) × Joins (m .walked) (j .merge)
+  Placed m j = (j .state < l .states) × Joins (m .walked) (j .merge)
 
   placed-new : (m : Merge) (o : Outcome Merge) (t : ℕ) → Holds (λ m′. (t < l .states) × Joins (m .walked) m′) o → Holds (Placed m) (withNew t o)
   unfolding withNew
@@ -112,7 +112,7 @@ module _ (l : Limits) (g : Grammar) (table : LaneTable) (rows : length table ≤
   unfolding joinSuccessor
   successor-joins s successor m h b =
       let choices : List ℕ = successor ∷ clonesOf m successor in
-      let k : ℕ = firstJoining table m s choices in
+      let k : ℕ = placeJoining table m s choices in
       holds-pick (Placed m) (ltb k (length choices)) _ _
       (λ found. (choice-below m successor (getD choices k 0) h b (among-at choices k 0 (ltb-true k (length choices) found)), joined-joins s successor (getD choices k 0) m h))
       (λ _. placed-new m (joinNew l g table s successor m) (length (m .states)) (new-joins s successor m))
@@ -127,9 +127,9 @@ module _ (l : Limits) (g : Grammar) (table : LaneTable) (rows : length table ≤
       let (i, _) = keep-among _ (upTo (length table)) among in
       omega (arith, upTo-among successor (length table) .0 i)
 
-  walk-on-further : (n s : ℕ) (m : Merge) → Further n m → Further n (walkOn s m)
-  unfolding walkOn
-  walk-on-further n s m (f, k) = (f, omega (arith, size-within (m .walked) (join (m .walked) (single s)) (within-join (m .walked) (single s)) (l .states)))
+  mark-walked-further : (n s : ℕ) (m : Merge) → Further n m → Further n (markWalked s m)
+  unfolding markWalked
+  mark-walked-further n s m (f, k) = (f, omega (arith, size-within (m .walked) (join (m .walked) (single s)) (within-join (m .walked) (single s)) (l .states)))
 
   joining-further : (n : ℕ) (m₀ : Merge) (s successor : ℕ) → Among successor (successorsOf table m₀ s) → (m : Merge) → Further n m
       → Holds (λ j. Further n (j .merge)) (joinSuccessor l g table s successor m)
@@ -138,12 +138,12 @@ module _ (l : Limits) (g : Grammar) (table : LaneTable) (rows : length table ≤
       (successor-joins s successor m f (successor-below m₀ s successor among))
 
   pub walk-further : (n fuel s : ℕ) (m : Merge) → Further n m → Holds (Further n) (walk l g table fuel s m)
-  walk-further n = walk-keeps l g table (Further n) (walk-on-further n) (joining-further n)
+  walk-further n = walk-keeps l g table (Further n) (mark-walked-further n) (joining-further n)
 
   -- ---- a state that was not walked counts
-  walk-on-counts : (s : ℕ) (m : Merge) → s < l .states → has (m .walked) s ≡ false → walks m < walks (walkOn s m)
-  unfolding walkOn
-  walk-on-counts s m b e =
+  mark-walked-counts : (s : ℕ) (m : Merge) → s < l .states → has (m .walked) s ≡ false → walks m < walks (markWalked s m)
+  unfolding markWalked
+  mark-walked-counts s m b e =
       size-strict (m .walked) (join (m .walked) (single s)) (within-join (m .walked) (single s)) (l .states) s b
       (has-join (m .walked) (single s) s .1 (inr (has-single s s .1 refl))) (has-false (m .walked) s .0 e)
 
@@ -155,7 +155,7 @@ module _ (l : Limits) (g : Grammar) (table : LaneTable) (rows : length table ≤
     where
       by-test : (t : Bool) → has (m .walked) s ≡ t → walked-by l g table larger s m t ≡ walked-by l g table zero s m t
       by-test true e = refl
-      by-test false e = absurd (omega (arith, walk-on-counts s m b e, size-le (l .states) (walkOn s m .walked)))
+      by-test false e = absurd (omega (arith, mark-walked-counts s m b e, size-le (l .states) (markWalked s m .walked)))
   walk-fuel (suc fuel) zero s m f b h k = absurd (omega arith)
   walk-fuel (suc fuel) (suc larger) s m f b h k = by-test (has (m .walked) s) refl (walk-fuel fuel larger)
     where
@@ -167,14 +167,14 @@ module _ (l : Limits) (g : Grammar) (table : LaneTable) (rows : length table ≤
       Left m′ = Fits m′ × (l .states ≤ walks m′ + fuel)
 
       agree : (m′ : Merge) (o : Outcome Joining) → Holds (Placed m′) o → Later → l .states ≤ walks m′ + fuel → stepped l g table (suc larger) o ≡ stepped l g table (suc fuel) o
-      agree m′ (done j) (w, p) more r = more (j .with) (j .merge) (omega arith) w (p .fits) (rw (p .same) r)
+      agree m′ (done j) (w, p) more r = more (j .state) (j .merge) (omega arith) w (p .fits) (rw (p .same) r)
       agree m′ (refused why) p more r = refl
 
       left : (m′ : Merge) (o : Outcome Joining) → Holds (Placed m′) o → l .states ≤ walks m′ + fuel → Holds Left (stepped l g table (suc fuel) o)
       left m′ (done j) (w, p) r =
           let r′ : l .states ≤ walks (j .merge) + fuel = rw (p .same) r in
-          holds-also (Further (walks (j .merge))) Left (λ m″ (f, q). (f, omega arith)) (walk l g table (suc fuel) (j .with) (j .merge))
-          (walk-further (walks (j .merge)) (suc fuel) (j .with) (j .merge) (p .fits, omega arith))
+          holds-also (Further (walks (j .merge))) Left (λ m″ (f, q). (f, omega arith)) (walk l g table (suc fuel) (j .state) (j .merge))
+          (walk-further (walks (j .merge)) (suc fuel) (j .state) (j .merge) (p .fits, omega arith))
       left m′ (refused why) p r = tt
 
       by-test : (t : Bool) → has (m .walked) s ≡ t → Later → walked-by l g table (suc larger) s m t ≡ walked-by l g table (suc fuel) s m t
@@ -184,4 +184,4 @@ module _ (l : Limits) (g : Grammar) (table : LaneTable) (rows : length table ≤
           (λ successor m. stepped l g table (suc fuel) (joinSuccessor l g table s successor m)) (successorsOf table m s)
           (λ successor among m′ (f′, r). agree m′ (joinSuccessor l g table s successor m′) (successor-joins s successor m′ f′ (successor-below m s successor among)) more r)
           (λ successor among m′ (f′, r). left m′ (joinSuccessor l g table s successor m′) (successor-joins s successor m′ f′ (successor-below m s successor among)) r)
-          (walkOn s m) (walk-on-further 0 s m (h, omega arith) .0, omega (arith, walk-on-counts s m b e))
+          (markWalked s m) (mark-walked-further 0 s m (h, omega arith) .0, omega (arith, mark-walked-counts s m b e))

@@ -66,11 +66,11 @@ module _ (g : Grammar) (i : ℕ) (b : Bool) (last : b ≡ atEnd g i) where
     before-that-terminal a s e f h = rw (← last, e, ← behind, f, h)
 
 module _ (g : Grammar) (i p k : ℕ) where
-  pub left-found : (a : ℕ) → p ≡ at g i .production → k ≡ leftSideOf g p → a ≡ at g k .symbol → a ≡ leftOf g i
+  pub left-found : (a : ℕ) → p ≡ at g i .production → k ≡ leftSideOf g p → a ≡ at g k .symbol → a ≡ leftOf g (at g i .production)
   unfolding leftOf
   left-found a e f h = h ∙ rw (f, e)
 
-  pub left-none : (n : ℕ) → p ≡ at g i .production → k ≡ leftSideOf g p → n ≡ length g → n ≤ k → 0 ≡ leftOf g i
+  pub left-none : (n : ℕ) → p ≡ at g i .production → k ≡ leftSideOf g p → n ≡ length g → n ≤ k → 0 ≡ leftOf g (at g i .production)
   unfolding past
   left-none n e f l h = let r : at g k ≡ past = record-past g k (omega arith) in left-found 0 e f (sym (ap (λ (x : Record). x .symbol) r))
 

@@ -97,7 +97,7 @@ pub fn left_side_of(g: &[u8], p: usize) -> usize
 // The nonterminal on the left of item i's production.
 pub fn left_of(g: &[u8], i: usize) -> usize
     requires { ⌜ 8 * i + 8 ≤ length (now g) ⌝ }
-    ensures { λ r. ⌜ (r ≡ leftOf (records (now (g .entry))) i) × (r < 65536) ⌝ }
+    ensures { λ r. ⌜ (r ≡ leftOf (records (now (g .entry))) (at (records (now (g .entry))) i .production)) × (r < 65536) ⌝ }
 {
     let p = crate::records::production(g, i);
     let k = left_side_of(g, p);

@@ -15,10 +15,10 @@ use Rattle.base.proofs.Tests.{both-true, implied-true}
 use Rattle.base.proofs.Until.{Steps, rounds-keep, rounds-end}
 use Rattle.rules.proofs.Laws.{not-at-end-within, nonterminal-counted-at}
 use Rattle.rules.specs.Records.{Grammar, at, isTerminal}
-use Rattle.rules.specs.Tokens.{TokenSet, Has, has, join, within, without}
+use Rattle.rules.specs.Tokens.{TokenSet, Has, has, isEmptySet, join, within, without}
 use Rattle.rules.specs.Grammar.{Symbol, nonterminal, terminal, symbolOf, atEnd, symbolsBehind, leftSides, terminalCount, nonterminalCount}
-use Rattle.rules.specs.First.{Sets, setOf, joinAt, first0, first1, addFirst, firstSettled, firstSets}
-use Rattle.rules.specs.States.{Entry, State, Follow, noSet, asks, ask, answeredBy, askEntries, askLeftSides, closureSettled, closureSets}
+use Rattle.rules.specs.First.{Sets, setOf, joinAt, first0, beginning, mayBeEmpty, first1, addFirst, firstSettled, firstSets}
+use Rattle.rules.specs.States.{Entry, State, Follow, closes, handsOn, closeItem, itemClosed, closeKernel, closeLeftSides, closureSettled, closureSets}
 use Rattle.sets.proofs.Laws.{within-true, none-below, join-below, without-below}
 use Rattle.sets.proofs.Tables.{Grows, joinAt-grows, joinAt-has, Narrow, mass, mass-le, joinAt-rests, joinAt-adds, joinAt-narrow, joinAt-length}
 use Rattle.knuth.proofs.Productions.{terminals-below, nonterminal-record}
@@ -34,9 +34,9 @@ not-at-end g i {x} {β} e = by-test (atEnd g i) refl
     by-test true p = absurd (nil≢cons (sym (at-end-behind g i p) ∙ e))
     by-test false p = (refl, sym (not-at-end-behind g i p) ∙ e)
 
-asked-below : (g : Grammar) (i : ℕ) (s : TokenSet) → asks g i s ≡ true → at g (i + 1) .symbol < nonterminalCount g
-unfolding asks
-asked-below g i s e = by-tests (noSet s) (atEnd g i) (isTerminal (at g (i + 1))) refl refl e
+closes-below : (g : Grammar) (i : ℕ) (s : TokenSet) → closes g i s ≡ true → at g (i + 1) .symbol < nonterminalCount g
+unfolding closes
+closes-below g i s e = by-tests (isEmptySet s) (atEnd g i) (isTerminal (at g (i + 1))) refl refl e
   where
     by-tests : (b d k : Bool) → atEnd g i ≡ d → isTerminal (at g (i + 1)) ≡ k → (not b && (not d && not k)) ≡ true → at g (i + 1) .symbol < nonterminalCount g
     by-tests true d k p q h = absurd (true≢false (sym h))
@@ -45,18 +45,18 @@ asked-below g i s e = by-tests (noSet s) (atEnd g i) (isTerminal (at g (i + 1)))
     by-tests false false false p q h = nonterminal-counted-at g (i + 1) (not-at-end-within g i p) q
 
 -- an item asks exactly if it has a token and a nonterminal stands behind its dot
-pub asks-behind : (g : Grammar) (i : ℕ) (s : TokenSet) (B : ℕ) {β : List Symbol} → symbolsBehind g i ≡ nonterminal B ∷ β → (s ≡ 0 → ⊥)
-    → (asks g i s ≡ true) × (at g (i + 1) .symbol ≡ B) × (symbolsBehind g (i + 1) ≡ β)
-unfolding asks noSet
-asks-behind g i s B e some =
+pub closes-behind : (g : Grammar) (i : ℕ) (s : TokenSet) (B : ℕ) {β : List Symbol} → symbolsBehind g i ≡ nonterminal B ∷ β → (s ≡ 0 → ⊥)
+    → (closes g i s ≡ true) × (at g (i + 1) .symbol ≡ B) × (symbolsBehind g (i + 1) ≡ β)
+unfolding closes isEmptySet
+closes-behind g i s B e some =
     let (p, q) = not-at-end g i e in
     let (k, f) = nonterminal-record (at g (i + 1)) B (head-eq-of-cons-eq q) in
     (rw (p, k, ne-eqb s 0 some), f, tail-eq-of-cons-eq q)
 
-pub behind-asks : (g : Grammar) (i : ℕ) (s : TokenSet) → asks g i s ≡ true → symbolsBehind g i ≡ nonterminal (at g (i + 1) .symbol) ∷ symbolsBehind g (i + 1)
-unfolding asks symbolOf
-behind-asks g i s a =
-    let (_, q) = both-true (not (noSet s)) _ a in
+pub behind-closes : (g : Grammar) (i : ℕ) (s : TokenSet) → closes g i s ≡ true → symbolsBehind g i ≡ nonterminal (at g (i + 1) .symbol) ∷ symbolsBehind g (i + 1)
+unfolding closes symbolOf
+behind-closes g i s a =
+    let (_, q) = both-true (not (isEmptySet s)) _ a in
     let (p, k) = both-true (not (atEnd g i)) (not (isTerminal (at g (i + 1)))) q in
     not-at-end-behind g i (not-true _ p) ∙ ap (λ (b : Bool). pick b (terminal (at g (i + 1) .symbol)) (nonterminal (at g (i + 1) .symbol)) ∷ symbolsBehind g (i + 1)) (not-true (isTerminal (at g (i + 1))) k)
 
@@ -74,110 +74,110 @@ module _ (g : Grammar) (follow : Follow) where
   abbrev InRange : Sets → Type 0
   InRange sets = (length sets ≡ m) × Narrow n sets
 
-  ask-grows : (i : ℕ) (s : TokenSet) (sets : Sets) → Grows sets (ask g follow i s sets)
-  unfolding ask
-  ask-grows i s sets = by-test (asks g i s)
+  close-item-grows : (i : ℕ) (s : TokenSet) (sets : Sets) → Grows sets (closeItem g follow i s sets)
+  unfolding closeItem
+  close-item-grows i s sets = by-test (closes g i s)
     where
-      by-test : (d : Bool) → Grows sets (pick d (joinAt (at g (i + 1) .symbol) (follow (symbolsBehind g (i + 1)) s) sets) sets)
-      by-test true = joinAt-grows (at g (i + 1) .symbol) (follow (symbolsBehind g (i + 1)) s) sets
+      by-test : (d : Bool) → Grows sets (pick d (joinAt (at g (i + 1) .symbol) (handsOn g follow i s) sets) sets)
+      by-test true = joinAt-grows (at g (i + 1) .symbol) (handsOn g follow i s) sets
       by-test false = λ a t h. h
 
-  ask-length : (i : ℕ) (s : TokenSet) (sets : Sets) → length (ask g follow i s sets) ≡ length sets
-  unfolding ask
-  ask-length i s sets = by-test (asks g i s)
+  close-item-length : (i : ℕ) (s : TokenSet) (sets : Sets) → length (closeItem g follow i s sets) ≡ length sets
+  unfolding closeItem
+  close-item-length i s sets = by-test (closes g i s)
     where
-      by-test : (d : Bool) → length (pick d (joinAt (at g (i + 1) .symbol) (follow (symbolsBehind g (i + 1)) s) sets) sets) ≡ length sets
+      by-test : (d : Bool) → length (pick d (joinAt (at g (i + 1) .symbol) (handsOn g follow i s) sets) sets) ≡ length sets
       by-test true = joinAt-length n _ _ sets
       by-test false = refl
 
   module _ (narrow : FollowsNarrow) where
-    ask-keeps : (i : ℕ) (s : TokenSet) → s < 2 ^ (n + 1) → (sets : Sets) → InRange sets → InRange (ask g follow i s sets)
-    unfolding ask
-    ask-keeps i s b sets (l, h) = by-test (asks g i s)
+    close-item-keeps : (i : ℕ) (s : TokenSet) → s < 2 ^ (n + 1) → (sets : Sets) → InRange sets → InRange (closeItem g follow i s sets)
+    unfolding closeItem
+    close-item-keeps i s b sets (l, h) = by-test (closes g i s)
       where
-        by-test : (d : Bool) → InRange (pick d (joinAt (at g (i + 1) .symbol) (follow (symbolsBehind g (i + 1)) s) sets) sets)
+        by-test : (d : Bool) → InRange (pick d (joinAt (at g (i + 1) .symbol) (handsOn g follow i s) sets) sets)
         by-test true = (joinAt-length n _ _ sets ∙ l, joinAt-narrow n _ _ sets (narrow (i + 1) s b) h)
         by-test false = (l, h)
 
-    ask-rests : (i : ℕ) (s : TokenSet) (sets : Sets) → answeredBy g follow sets i s ≡ true → ask g follow i s sets ≡ sets
-    unfolding ask answeredBy
-    ask-rests i s sets e = by-test (asks g i s) e
+    close-item-rests : (i : ℕ) (s : TokenSet) (sets : Sets) → itemClosed g follow sets i s ≡ true → closeItem g follow i s sets ≡ sets
+    unfolding closeItem itemClosed
+    close-item-rests i s sets e = by-test (closes g i s) e
       where
-        by-test : (d : Bool) → (not d || within (follow (symbolsBehind g (i + 1)) s) (setOf sets (at g (i + 1) .symbol))) ≡ true
-            → pick d (joinAt (at g (i + 1) .symbol) (follow (symbolsBehind g (i + 1)) s) sets) sets ≡ sets
+        by-test : (d : Bool) → (not d || within (handsOn g follow i s) (setOf sets (at g (i + 1) .symbol))) ≡ true
+            → pick d (joinAt (at g (i + 1) .symbol) (handsOn g follow i s) sets) sets ≡ sets
         by-test true e = joinAt-rests n _ _ sets e
         by-test false e = refl
 
-    ask-adds : (i : ℕ) (s : TokenSet) → s < 2 ^ (n + 1) → (sets : Sets) → InRange sets → answeredBy g follow sets i s ≡ false
-        → mass n sets < mass n (ask g follow i s sets)
-    unfolding ask answeredBy
-    ask-adds i s b sets (l, h) e = by-test (asks g i s) refl e
+    close-item-adds : (i : ℕ) (s : TokenSet) → s < 2 ^ (n + 1) → (sets : Sets) → InRange sets → itemClosed g follow sets i s ≡ false
+        → mass n sets < mass n (closeItem g follow i s sets)
+    unfolding closeItem itemClosed
+    close-item-adds i s b sets (l, h) e = by-test (closes g i s) refl e
       where
-        by-test : (d : Bool) → asks g i s ≡ d → (not d || within (follow (symbolsBehind g (i + 1)) s) (setOf sets (at g (i + 1) .symbol))) ≡ false
-            → mass n sets < mass n (pick d (joinAt (at g (i + 1) .symbol) (follow (symbolsBehind g (i + 1)) s) sets) sets)
-        by-test true a e = joinAt-adds n _ _ sets (rw l (asked-below g i s a)) (narrow (i + 1) s b) e
+        by-test : (d : Bool) → closes g i s ≡ d → (not d || within (handsOn g follow i s) (setOf sets (at g (i + 1) .symbol))) ≡ false
+            → mass n sets < mass n (pick d (joinAt (at g (i + 1) .symbol) (handsOn g follow i s) sets) sets)
+        by-test true a e = joinAt-adds n _ _ sets (rw l (closes-below g i s a)) (narrow (i + 1) s b) e
         by-test false a e = absurd (true≢false e)
 
-    steps : Steps (λ i sets. ask g follow i (setOf sets (at g i .symbol)) sets) (λ i sets. answeredBy g follow sets i (setOf sets (at g i .symbol))) (mass n) InRange (leftSides g)
+    steps : Steps (λ i sets. closeItem g follow i (setOf sets (at g i .symbol)) sets) (λ i sets. itemClosed g follow sets i (setOf sets (at g i .symbol))) (mass n) InRange (leftSides g)
     steps = record {
-      keeps = λ i k sets (l, s). ask-keeps i (setOf sets (at g i .symbol)) (s (at g i .symbol)) sets (l, s);
-      rests = λ i k sets s e. ask-rests i (setOf sets (at g i .symbol)) sets e;
-      adds = λ i k sets (l, s) e. ask-adds i (setOf sets (at g i .symbol)) (s (at g i .symbol)) sets (l, s) e;
+      keeps = λ i k sets (l, s). close-item-keeps i (setOf sets (at g i .symbol)) (s (at g i .symbol)) sets (l, s);
+      rests = λ i k sets s e. close-item-rests i (setOf sets (at g i .symbol)) sets e;
+      adds = λ i k sets (l, s) e. close-item-adds i (setOf sets (at g i .symbol)) (s (at g i .symbol)) sets (l, s) e;
     }
 
-    entries-keep : (kernel : State) → ((e : Entry) → Among e kernel → e .set < 2 ^ (n + 1)) → (sets : Sets) → InRange sets → InRange (askEntries g follow kernel sets)
-    unfolding askEntries
-    entries-keep kernel small = fold-keeps (λ e sets. ask g follow (e .item) (e .set) sets) InRange kernel (λ e k sets r. ask-keeps (e .item) (e .set) (small e k) sets r)
+    entries-keep : (kernel : State) → ((e : Entry) → Among e kernel → e .set < 2 ^ (n + 1)) → (sets : Sets) → InRange sets → InRange (closeKernel g follow kernel sets)
+    unfolding closeKernel
+    entries-keep kernel small = fold-keeps (λ e sets. closeItem g follow (e .item) (e .set) sets) InRange kernel (λ e k sets r. close-item-keeps (e .item) (e .set) (small e k) sets r)
 
-    begun-in-range : (kernel : State) → ((e : Entry) → Among e kernel → e .set < 2 ^ (n + 1)) → InRange (askEntries g follow kernel (replicate m 0))
+    begun-in-range : (kernel : State) → ((e : Entry) → Among e kernel → e .set < 2 ^ (n + 1)) → InRange (closeKernel g follow kernel (replicate m 0))
     unfolding setOf
     begun-in-range kernel small = entries-keep kernel small (replicate m 0) (length-replicate m 0, λ a. rw (at-replicate {A = ℕ} m 0 a) (none-below (n + 1)))
 
     -- a closure of a kernel whose sets have no token over n is settled
     pub closure-settled : (kernel : State) → ((e : Entry) → Among e kernel → e .set < 2 ^ (n + 1)) → closureSettled g follow (closureSets g follow kernel) ≡ true
-    unfolding closureSettled closureSets askLeftSides setOf at
+    unfolding closureSettled closureSets closeLeftSides setOf at
     closure-settled kernel small =
         let bounded : (sets : Sets) → InRange sets → mass n sets ≤ m * (n + 1) =
         λ sets i. omega (arith, mass-le n sets, ap (λ (k : ℕ). k * (n + 1)) (i .0)) in
-        rounds-end (λ i sets. ask g follow i (setOf sets (at g i .symbol)) sets) (λ i sets. answeredBy g follow sets i (setOf sets (at g i .symbol))) (mass n) InRange
-        (leftSides g) steps (m * (n + 1)) bounded (m * (n + 1)) (askEntries g follow kernel (replicate m 0)) (begun-in-range kernel small) (omega arith)
+        rounds-end (λ i sets. closeItem g follow i (setOf sets (at g i .symbol)) sets) (λ i sets. itemClosed g follow sets i (setOf sets (at g i .symbol))) (mass n) InRange
+        (leftSides g) steps (m * (n + 1)) bounded (m * (n + 1)) (closeKernel g follow kernel (replicate m 0)) (begun-in-range kernel small) (omega arith)
 
     pub closure-in-range : (kernel : State) → ((e : Entry) → Among e kernel → e .set < 2 ^ (n + 1)) → InRange (closureSets g follow kernel)
-    unfolding closureSets askLeftSides
+    unfolding closureSets closeLeftSides
     closure-in-range kernel small =
-        rounds-keep (closureSettled g follow) (λ i sets. ask g follow i (setOf sets (at g i .symbol)) sets) InRange (leftSides g) (steps .keeps)
-        (m * (n + 1)) (askEntries g follow kernel (replicate m 0)) (begun-in-range kernel small)
+        rounds-keep (closureSettled g follow) (λ i sets. closeItem g follow i (setOf sets (at g i .symbol)) sets) InRange (leftSides g) (steps .keeps)
+        (m * (n + 1)) (closeKernel g follow kernel (replicate m 0)) (begun-in-range kernel small)
 
     -- ---- what an item asks for is there
-    ask-has : (i : ℕ) (s : TokenSet) (sets : Sets) (u : ℕ) → asks g i s ≡ true → length sets ≡ m → Has (follow (symbolsBehind g (i + 1)) s) u
-        → Has (setOf (ask g follow i s sets) (at g (i + 1) .symbol)) u
-    unfolding ask
-    ask-has i s sets u a l h = rw a (joinAt-has (at g (i + 1) .symbol) (follow (symbolsBehind g (i + 1)) s) sets u (rw l (asked-below g i s a)) h)
+    close-item-has : (i : ℕ) (s : TokenSet) (sets : Sets) (u : ℕ) → closes g i s ≡ true → length sets ≡ m → Has (handsOn g follow i s) u
+        → Has (setOf (closeItem g follow i s sets) (at g (i + 1) .symbol)) u
+    unfolding closeItem
+    close-item-has i s sets u a l h = rw a (joinAt-has (at g (i + 1) .symbol) (handsOn g follow i s) sets u (rw l (closes-below g i s a)) h)
 
-    entries-have : {e : Entry} {kernel : State} → Among e kernel → (sets : Sets) (u : ℕ) → asks g (e .item) (e .set) ≡ true → length sets ≡ m
-        → Has (follow (symbolsBehind g (e .item + 1)) (e .set)) u → Has (setOf (askEntries g follow kernel sets) (at g (e .item + 1) .symbol)) u
-    unfolding askEntries foldOver
+    entries-have : {e : Entry} {kernel : State} → Among e kernel → (sets : Sets) (u : ℕ) → closes g (e .item) (e .set) ≡ true → length sets ≡ m
+        → Has (handsOn g follow (e .item) (e .set)) u → Has (setOf (closeKernel g follow kernel sets) (at g (e .item + 1) .symbol)) u
+    unfolding closeKernel foldOver
     entries-have {e} (here {xs = es}) sets u a l h =
-        fold-keeps (λ f sets. ask g follow (f .item) (f .set) sets) (λ sets. Has (setOf sets (at g (e .item + 1) .symbol)) u) es
-        (λ f k sets k′. ask-grows (f .item) (f .set) sets (at g (e .item + 1) .symbol) u k′) (ask g follow (e .item) (e .set) sets) (ask-has (e .item) (e .set) sets u a l h)
-    entries-have {e} (later {y = f} k) sets u a l h = entries-have k (ask g follow (f .item) (f .set) sets) u a (ask-length (f .item) (f .set) sets ∙ l) h
+        fold-keeps (λ f sets. closeItem g follow (f .item) (f .set) sets) (λ sets. Has (setOf sets (at g (e .item + 1) .symbol)) u) es
+        (λ f k sets k′. close-item-grows (f .item) (f .set) sets (at g (e .item + 1) .symbol) u k′) (closeItem g follow (e .item) (e .set) sets) (close-item-has (e .item) (e .set) sets u a l h)
+    entries-have {e} (later {y = f} k) sets u a l h = entries-have k (closeItem g follow (f .item) (f .set) sets) u a (close-item-length (f .item) (f .set) sets ∙ l) h
 
     module _ (kernel : State) (small : (e : Entry) → Among e kernel → e .set < 2 ^ (n + 1)) where
-      pub kernel-answered : {e : Entry} → Among e kernel → (u : ℕ) → asks g (e .item) (e .set) ≡ true
-          → Has (follow (symbolsBehind g (e .item + 1)) (e .set)) u → Has (setOf (closureSets g follow kernel) (at g (e .item + 1) .symbol)) u
-      unfolding closureSets askLeftSides
+      pub kernel-answered : {e : Entry} → Among e kernel → (u : ℕ) → closes g (e .item) (e .set) ≡ true
+          → Has (handsOn g follow (e .item) (e .set)) u → Has (setOf (closureSets g follow kernel) (at g (e .item + 1) .symbol)) u
+      unfolding closureSets closeLeftSides
       kernel-answered {e} k u a h =
-          rounds-keep (closureSettled g follow) (λ i sets. ask g follow i (setOf sets (at g i .symbol)) sets) (λ sets. Has (setOf sets (at g (e .item + 1) .symbol)) u) (leftSides g)
-          (λ i j sets k′. ask-grows i (setOf sets (at g i .symbol)) sets (at g (e .item + 1) .symbol) u k′)
-          (m * (n + 1)) (askEntries g follow kernel (replicate m 0)) (entries-have k (replicate m 0) u a (length-replicate m 0) h)
+          rounds-keep (closureSettled g follow) (λ i sets. closeItem g follow i (setOf sets (at g i .symbol)) sets) (λ sets. Has (setOf sets (at g (e .item + 1) .symbol)) u) (leftSides g)
+          (λ i j sets k′. close-item-grows i (setOf sets (at g i .symbol)) sets (at g (e .item + 1) .symbol) u k′)
+          (m * (n + 1)) (closeKernel g follow kernel (replicate m 0)) (entries-have k (replicate m 0) u a (length-replicate m 0) h)
 
-      pub left-side-answered : (i : ℕ) → Among i (leftSides g) → (u : ℕ) → asks g i (setOf (closureSets g follow kernel) (at g i .symbol)) ≡ true
-          → Has (follow (symbolsBehind g (i + 1)) (setOf (closureSets g follow kernel) (at g i .symbol))) u → Has (setOf (closureSets g follow kernel) (at g (i + 1) .symbol)) u
-      unfolding closureSettled answeredBy
+      pub left-side-answered : (i : ℕ) → Among i (leftSides g) → (u : ℕ) → closes g i (setOf (closureSets g follow kernel) (at g i .symbol)) ≡ true
+          → Has (handsOn g follow i (setOf (closureSets g follow kernel) (at g i .symbol))) u → Has (setOf (closureSets g follow kernel) (at g (i + 1) .symbol)) u
+      unfolding closureSettled itemClosed
       left-side-answered i k u a h =
           let sets : Sets = closureSets g follow kernel in
-          let each = each-true (λ i. answeredBy g follow sets i (setOf sets (at g i .symbol))) k (closure-settled kernel small) in
-          within-true _ _ .0 (implied-true (asks g i (setOf sets (at g i .symbol))) _ each a) u h
+          let each = each-true (λ i. itemClosed g follow sets i (setOf sets (at g i .symbol))) k (closure-settled kernel small) in
+          within-true _ _ .0 (implied-true (closes g i (setOf sets (at g i .symbol))) _ each a) u h
 
 -- ---- the two modes
 pub lr0-follows-narrow : (g : Grammar) → FollowsNarrow g (λ xs s. s)
@@ -194,7 +194,7 @@ first-sets-narrow g =
 
 pub first1-narrow : (g : Grammar) (i : ℕ) (s : TokenSet) → s < 2 ^ (terminalCount g + 1)
     → first1 (terminalCount g) (firstSets g) (symbolsBehind g i) s < 2 ^ (terminalCount g + 1)
-unfolding first1
+unfolding first1 beginning mayBeEmpty
 first1-narrow g i s b = by-mark (has first n)
   where
     n : ℕ

@@ -15,7 +15,7 @@ use Rattle.rules.specs.Limits.{Limits}
 use Rattle.rules.specs.Records.{Grammar}
 use Rattle.rules.specs.Tokens.{TokenSet, Has, has, single, join, without}
 use Rattle.rules.specs.Grammar.{Symbol, symbolsBehind, terminalCount}
-use Rattle.rules.specs.First.{first0, first1, firstSets}
+use Rattle.rules.specs.First.{first0, beginning, mayBeEmpty, first1, firstSets}
 use Rattle.sets.proofs.Laws.{has-true, has-false, has-single, has-join, has-without}
 use Rattle.knuth.specs.Rules.{Rule}
 use Rattle.knuth.specs.Meaning.{Null, Begins, token, inside, past, First}
@@ -93,7 +93,7 @@ module _ (R : ℕ → ℕ → List Symbol → Type 0) (xs : List Symbol) (n t : 
 module _ (g : Grammar) (left : NonterminalsLeft g) (xs : List Symbol) (below : TerminalsBelow (terminalCount g) xs) where
   first1-begins : (lookahead : TokenSet) (t : ℕ)
       → Has (first1 (terminalCount g) (firstSets g) xs lookahead) t ↔ (Begins (Rule g) t xs ⊎ (Null (Rule g) xs × Has lookahead t))
-  unfolding first1
+  unfolding first1 beginning mayBeEmpty
   first1-begins lookahead t =
       looked-ahead (Rule g) xs (terminalCount g) t (first0 (terminalCount g) (firstSets g) xs) lookahead
       (first0-null g left xs below) (first0-begins g left xs below t) (λ b e. omega (arith, begins-below g below b))

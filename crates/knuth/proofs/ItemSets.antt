@@ -19,11 +19,11 @@ use Rattle.base.proofs.Until.{rounds-keep}
 use Rattle.rules.specs.Limits.{Limits}
 use Rattle.rules.proofs.Laws.{not-at-end-within}
 use Rattle.rules.specs.Records.{Record, Grammar, at, isTerminal, isLeftSide, badRecord, comesBehind, inSequence, outOfSequence}
-use Rattle.rules.specs.Tokens.{TokenSet, Has, has, eof}
+use Rattle.rules.specs.Tokens.{TokenSet, Has, has, isEmptySet, eof}
 use Rattle.rules.specs.Grammar.{Symbol, nonterminal, atStart, atEnd, isBefore, symbolsBehind, leftSides, start, namesStart, terminalCount, nonterminalCount}
 use Rattle.rules.specs.First.{Sets, setOf, joinAt}
 use Rattle.rules.specs.Run.{Table}
-use Rattle.rules.specs.States.{Entry, State, noSet, asks, ask, askEntries, askLeftSides, closureSettled, closureSets, entryOf, closure, kernelOver}
+use Rattle.rules.specs.States.{Entry, State, closes, handsOn, closeItem, closeKernel, closeLeftSides, closureSettled, closureSets, entryOf, closure, kernelOver}
 use Rattle.sets.proofs.Laws.{has-true, has-none, has-eof, single-below, some-token}
 use Rattle.sets.proofs.Tables.{joinAt-only}
 use Rattle.knuth.specs.Rules.{Rule}
@@ -39,7 +39,7 @@ use Rattle.knuth.proofs.Productions.{rule-of-left-side, left-side-of-ru
 use Rattle.knuth.proofs.FirstSets.{first-behind-dot}
 use Rattle.knuth.proofs.Dots.{before-behind, symbol-behind, end-behind, at-end-behind}
 use Rattle.knuth.proofs.Table.{clear→table}
-use Rattle.knuth.proofs.Closures.{asks-behind, behind-asks, kernel-answered, left-side-answered, closure-in-range, canonical-follows-narrow}
+use Rattle.knuth.proofs.Closures.{closes-behind, behind-closes, kernel-answered, left-side-answered, closure-in-range, canonical-follows-narrow}
 
 module _ (g : Grammar) where
   abbrev n : ℕ
@@ -55,13 +55,13 @@ module _ (g : Grammar) where
   -- an entry of an item set is one of the kernel, or a left-side record with the set of its nonterminal, if that has a token
   item-set-entry : (γ : List Symbol) (e : Entry) → Among e (itemSet g γ)
       → Among e (kernelAt g γ) ⊎ ((i : ℕ) × Among i (leftSides g) × (e ≡ entryOf g (setsAt γ) i) × (e .set ≡ 0 → ⊥))
-  unfolding itemSet closure noSet
+  unfolding itemSet closure isEmptySet
   item-set-entry γ e m = ⊎-elim inl (λ k. inr (left k)) (among-append (kernelAt g γ) m)
     where
-      left : Among e (keep (λ e. not (noSet (e .set))) (map (entryOf g (setsAt γ)) (leftSides g)))
+      left : Among e (keep (λ e. not (isEmptySet (e .set))) (map (entryOf g (setsAt γ)) (leftSides g)))
           → (i : ℕ) × Among i (leftSides g) × (e ≡ entryOf g (setsAt γ) i) × (e .set ≡ 0 → ⊥)
       left k =
-          let (j, p) = keep-among (λ (e : Entry). not (noSet (e .set))) (map (entryOf g (setsAt γ)) (leftSides g)) k in
+          let (j, p) = keep-among (λ (e : Entry). not (isEmptySet (e .set))) (map (entryOf g (setsAt γ)) (leftSides g)) k in
           let (i, q, r) = map-among (entryOf g (setsAt γ)) (leftSides g) j in
           (i, q, r, eqb-false (e .set) 0 (not-true _ p))
 
@@ -70,10 +70,10 @@ module _ (g : Grammar) where
   kernel-entry γ e m = append-left _ m
 
   left-side-entry : (γ : List Symbol) (i u : ℕ) → Among i (leftSides g) → Has (setOf (setsAt γ) (at g i .symbol)) u → Among (entryOf g (setsAt γ) i) (itemSet g γ)
-  unfolding itemSet closure noSet entryOf
+  unfolding itemSet closure isEmptySet entryOf
   left-side-entry γ i u m h =
       append-right (kernelAt g γ)
-      (among-keep (λ (e : Entry). not (noSet (e .set))) (among-map (entryOf g (setsAt γ)) m)
+      (among-keep (λ (e : Entry). not (isEmptySet (e .set))) (among-map (entryOf g (setsAt γ)) m)
       (ap not (ne-eqb (setOf (setsAt γ) (at g i .symbol)) 0 (λ z. has-none u (rw z at h)))))
 
   start-good : Good (startKernel g)
@@ -168,10 +168,10 @@ module _ (l : Limits) (g : Grammar) (checked : Checked l g) where
       }
 
   -- the set of a nonterminal that an entry asks for has the tokens that follow it
-  asked-has : (γ : List Symbol) (e : Entry) → Among e (itemSet g γ) → (u : ℕ) → asks g (e .item) (e .set) ≡ true
-      → Has (canonicalFollow g (symbolsBehind g (e .item + 1)) (e .set)) u → Has (setOf (setsAt g γ) (at g (e .item + 1) .symbol)) u
+  closes-has : (γ : List Symbol) (e : Entry) → Among e (itemSet g γ) → (u : ℕ) → closes g (e .item) (e .set) ≡ true
+      → Has (handsOn g (canonicalFollow g) (e .item) (e .set)) u → Has (setOf (setsAt g γ) (at g (e .item + 1) .symbol)) u
   unfolding entryOf
-  asked-has γ e m u a h =
+  closes-has γ e m u a h =
       ⊎-elim (λ k. kernel-answered g (canonicalFollow g) (canonical-follows-narrow g) (kernelAt g γ) small k u a h)
       (λ (i, k, q, some).
       let p : e .item ≡ i = ap (λ (e : Entry). e .item) q in
@@ -184,14 +184,14 @@ module _ (l : Limits) (g : Grammar) (checked : Checked l g) where
 
   has-closed : (γ : List Symbol) {β η : List Symbol} {p q B t u : ℕ} → HasItem g (itemSet g γ) p (nonterminal B ∷ β) t → Rule g q B η → First (Rule g) β t u
       → HasItem g (itemSet g γ) q η u
-  unfolding entryOf
+  unfolding entryOf handsOn
   has-closed γ {β} {B = B} {t = t} {u = u} h r f =
       let e : Entry = h .entry in
       let some : e .set ≡ 0 → ⊥ = λ z. has-none t (rw z at (h .token)) in
-      let (a, b, rest) = asks-behind g (e .item) (e .set) B (h .behind) some in
-      let first : Has (canonicalFollow g (symbolsBehind g (e .item + 1)) (e .set)) u =
+      let (a, b, rest) = closes-behind g (e .item) (e .set) B (h .behind) some in
+      let first : Has (handsOn g (canonicalFollow g) (e .item) (e .set)) u =
       first-behind-dot l g checked (e .item + 1) .ahead-some (e .set) t u (h .token) .1 (t, h .token, rw rest f) in
-      let here : Has (setOf (setsAt g γ) B) u = rw b at (asked-has γ e (h .among) u a first) in
+      let here : Has (setOf (setsAt g γ) B) u = rw b at (closes-has γ e (h .among) u a first) in
       record {
         entry = entryOf g (setsAt g γ) (r .leftSide);
         among = left-side-entry g γ (r .leftSide) u (left-side-of-rule g r) (rw (r .left) here);
@@ -232,11 +232,11 @@ module _ (l : Limits) (g : Grammar) (checked : Checked l g) where
   left-side-sound : (γ : List Symbol) (i t : ℕ) → Among i (leftSides g) → Asked γ (at g i .symbol) t → AtItem γ i t
   left-side-sound γ i t k a = record { left = at g i .symbol; α = []; item = close (a .item) (rule-of-left-side g i k) (a .first) }
 
-  asked-sound : (γ : List Symbol) (i : ℕ) (s : TokenSet) → ((t : ℕ) → Has s t → AtItem γ i t) → asks g i s ≡ true
-      → (u : ℕ) → Has (canonicalFollow g (symbolsBehind g (i + 1)) s) u → Asked γ (at g (i + 1) .symbol) u
-  unfolding asks noSet
-  asked-sound γ i s sound a u h =
-      let (t, k) = some-token s (eqb-false s 0 (not-true _ (both-true (not (noSet s)) _ a .0))) in
+  closes-sound : (γ : List Symbol) (i : ℕ) (s : TokenSet) → ((t : ℕ) → Has s t → AtItem γ i t) → closes g i s ≡ true
+      → (u : ℕ) → Has (handsOn g (canonicalFollow g) i s) u → Asked γ (at g (i + 1) .symbol) u
+  unfolding closes handsOn isEmptySet
+  closes-sound γ i s sound a u h =
+      let (t, k) = some-token s (eqb-false s 0 (not-true _ (both-true (not (isEmptySet s)) _ a .0))) in
       let (b, k′, f) = first-behind-dot l g checked (i + 1) .ahead-some s t u k .0 h in
       let j : AtItem γ i b = sound b k′ in
       record {
@@ -245,32 +245,32 @@ module _ (l : Limits) (g : Grammar) (checked : Checked l g) where
         α = j .α;
         β = symbolsBehind g (i + 1);
         token = b;
-        item = rw (behind-asks g i s a) at (j .item);
+        item = rw (behind-closes g i s a) at (j .item);
         first = f;
       }
 
-  ask-sound : (γ : List Symbol) (i : ℕ) (s : TokenSet) → ((t : ℕ) → Has s t → AtItem γ i t) → (sets : Sets) → SoundSets γ sets
-      → SoundSets γ (ask g (canonicalFollow g) i s sets)
-  unfolding ask
-  ask-sound γ i s sound sets h = by-test (asks g i s) refl
+  close-item-sound : (γ : List Symbol) (i : ℕ) (s : TokenSet) → ((t : ℕ) → Has s t → AtItem γ i t) → (sets : Sets) → SoundSets γ sets
+      → SoundSets γ (closeItem g (canonicalFollow g) i s sets)
+  unfolding closeItem
+  close-item-sound γ i s sound sets h = by-test (closes g i s) refl
     where
       follows : TokenSet
-      follows = canonicalFollow g (symbolsBehind g (i + 1)) s
+      follows = handsOn g (canonicalFollow g) i s
 
-      by-test : (d : Bool) → asks g i s ≡ d → SoundSets γ (pick d (joinAt (at g (i + 1) .symbol) follows sets) sets)
-      by-test true a B u k = ⊎-elim (h B u) (λ (e, f). rw e (asked-sound γ i s sound a u f)) (joinAt-only (at g (i + 1) .symbol) follows sets B u k)
+      by-test : (d : Bool) → closes g i s ≡ d → SoundSets γ (pick d (joinAt (at g (i + 1) .symbol) follows sets) sets)
+      by-test true a B u k = ⊎-elim (h B u) (λ (e, f). rw e (closes-sound γ i s sound a u f)) (joinAt-only (at g (i + 1) .symbol) follows sets B u k)
       by-test false a B u k = h B u k
 
   closure-sound : (γ : List Symbol) → SoundState γ (kernelAt g γ) → SoundSets γ (setsAt g γ)
-  unfolding closureSets askLeftSides askEntries setOf
+  unfolding closureSets closeLeftSides closeKernel setOf
   closure-sound γ sound =
       let m : ℕ = nonterminalCount g in
       let begun : SoundSets γ (replicate m 0) = λ B u h. absurd (has-none u (rw (at-replicate {A = ℕ} m 0 B) at h)) in
-      rounds-keep (closureSettled g (canonicalFollow g)) (λ i sets. ask g (canonicalFollow g) i (setOf sets (at g i .symbol)) sets) (SoundSets γ) (leftSides g)
-      (λ i k sets h. ask-sound γ i (setOf sets (at g i .symbol)) (λ t j. left-side-sound γ i t k (h (at g i .symbol) t j)) sets h)
-      (m * (n g + 1)) (askEntries g (canonicalFollow g) (kernelAt g γ) (replicate m 0))
-      (fold-keeps (λ e sets. ask g (canonicalFollow g) (e .item) (e .set) sets) (SoundSets γ) (kernelAt g γ)
-      (λ e k sets h. ask-sound γ (e .item) (e .set) (sound e k) sets h) (replicate m 0) begun)
+      rounds-keep (closureSettled g (canonicalFollow g)) (λ i sets. closeItem g (canonicalFollow g) i (setOf sets (at g i .symbol)) sets) (SoundSets γ) (leftSides g)
+      (λ i k sets h. close-item-sound γ i (setOf sets (at g i .symbol)) (λ t j. left-side-sound γ i t k (h (at g i .symbol) t j)) sets h)
+      (m * (n g + 1)) (closeKernel g (canonicalFollow g) (kernelAt g γ) (replicate m 0))
+      (fold-keeps (λ e sets. closeItem g (canonicalFollow g) (e .item) (e .set) sets) (SoundSets γ) (kernelAt g γ)
+      (λ e k sets h. close-item-sound γ (e .item) (e .set) (sound e k) sets h) (replicate m 0) begun)
 
   set-sound : (γ : List Symbol) → SoundState γ (kernelAt g γ) → SoundState γ (itemSet g γ)
   unfolding entryOf

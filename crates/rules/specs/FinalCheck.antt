@@ -10,18 +10,18 @@ use lib.Dec.{eqb, ltb}
 use Rattle.base.specs.Pick.{pick}
 use Rattle.base.specs.Loops.{firstFrom, until}
 use Rattle.base.specs.Lists.{upTo, eachOf, foldOver}
-use Rattle.rules.specs.Records.{Grammar, at, isTerminal}
-use Rattle.rules.specs.Tokens.{TokenSet, join, within, eof}
-use Rattle.rules.specs.Grammar.{atEnd, isLeftSideOf, symbolsBehind, terminalCount}
+use Rattle.rules.specs.Records.{Grammar, at}
+use Rattle.rules.specs.Tokens.{TokenSet, isEmptySet, join, within, eof}
+use Rattle.rules.specs.Grammar.{atEnd, isLeftSideOf, terminalCount}
 use Rattle.rules.specs.First.{Sets, first1, firstSets}
-use Rattle.rules.specs.States.{Entry, State, Outcome, done, refused, noSet, itemCount, conflictsAt}
+use Rattle.rules.specs.States.{Entry, State, Outcome, done, refused, closes, handsOn, itemCount, conflictsAt}
 use Rattle.rules.specs.declared.BuildRefusal.the-variants.{FinalCheck}
 
--- ---- what an entry with a least set asks of other entries
+-- ---- tokens handed on to entries
 abbrev pub withSet : TokenSet → Entry → Entry
 withSet s e = record { item = e .item; next = e .next; set = s }
 
--- the entries that pass the test have the tokens, and are given them
+-- the entries whose items pass the test have the tokens, and are given them
 unfoldable pub haveSet : (ℕ → Bool) → TokenSet → State → Bool
 unfolding eachOf within
 haveSet test s state = eachOf (λ e. not (test (e .item)) || within s (e .set)) state
@@ -38,24 +38,19 @@ unfoldable pub giveAt : ℕ → (ℕ → Bool) → TokenSet → List State → L
 unfolding giveSet
 giveAt s test tokens least = set least s (giveSet test tokens (getD least s []))
 
+-- entry k of state s, with the set that it has by now
+unfoldable pub entryAt : List State → ℕ → ℕ → Entry
+entryAt least s k = getD (getD least s []) k (record { item = 0; next = 0; set = 0 })
+
 -- the entry has a set, and a symbol behind its dot
-unfoldable pub movesOn : Grammar → Entry → Bool
-unfolding noSet atEnd
-movesOn g e = not (noSet (e .set)) && not (atEnd g (e .item))
+unfoldable pub moves : Grammar → Entry → Bool
+unfolding isEmptySet atEnd
+moves g e = not (isEmptySet (e .set)) && not (atEnd g (e .item))
 
--- and that is a nonterminal
-unfoldable pub closes : Grammar → Entry → Bool
-unfolding movesOn isTerminal at
-closes g e = movesOn g e && not (isTerminal (at g (e .item + 1)))
-
--- the items of the nonterminal behind the dot, and what they get
-unfoldable pub behindDot : Grammar → Entry → ℕ → Bool
+-- item j is one of the nonterminal behind the dot of item i
+unfoldable pub isBehindDot : Grammar → ℕ → ℕ → Bool
 unfolding isLeftSideOf at
-behindDot g e i = isLeftSideOf g (at g (e .item + 1) .symbol) i
-
-unfoldable pub closing : Grammar → Sets → Entry → TokenSet
-unfolding first1 symbolsBehind terminalCount
-closing g sets e = first1 (terminalCount g) sets (symbolsBehind g (e .item + 1)) (e .set)
+isBehindDot g i j = isLeftSideOf g (at g (i + 1) .symbol) j
 
 -- state 0's start item has Eof, every other entry nothing
 unfoldable pub leastBegun : Grammar → List State → List State
@@ -69,35 +64,58 @@ lacks g [] least = false
 lacks g (e ∷ es) [] = false
 lacks g (e ∷ es) (f ∷ fs) = (atEnd g (e .item) && not (within (f .set) (e .set))) || lacks g es fs
 
-unfoldable pub fails : Grammar → List State → List State → ℕ → Bool
+unfoldable pub failsAt : Grammar → List State → List State → ℕ → Bool
 unfolding lacks conflictsAt
-fails g states least s = lacks g (getD states s []) (getD least s []) || not (eqb (conflictsAt g (getD states s [])) 0)
+failsAt g states least s = lacks g (getD states s []) (getD least s []) || not (eqb (conflictsAt g (getD states s [])) 0)
 
 module _ (g : Grammar) (sets : Sets) where
-  -- entry e of state s has what it asks for
-  unfoldable pub satisfied : List State → ℕ → Entry → Bool
-  unfolding movesOn closes closing behindDot haveAt
-  satisfied least s e =
-      (not (movesOn g e) || haveAt least (e .next) (eqb (e .item + 1)) (e .set)) && (not (closes g e) || haveAt least s (behindDot g e) (closing g sets e))
+  -- what an entry hands on to the items of the nonterminal behind its dot
+  unfoldable pub closing : Entry → TokenSet
+  unfolding handsOn first1 terminalCount
+  closing e = handsOn g (first1 (terminalCount g) sets) (e .item) (e .set)
 
-  unfoldable pub satisfy : ℕ → Entry → List State → List State
-  unfolding movesOn closes closing behindDot giveAt
-  satisfy s e least =
-      let moved : List State = pick (movesOn g e) (giveAt (e .next) (eqb (e .item + 1)) (e .set) least) least in
-      pick (closes g e) (giveAt s (behindDot g e) (closing g sets e) moved) moved
+  -- the moved dot of an entry has its set; the items of the nonterminal behind its dot have what it hands on
+  unfoldable pub entryMoved : List State → Entry → Bool
+  unfolding moves haveAt
+  entryMoved least e = not (moves g e) || haveAt least (e .next) (eqb (e .item + 1)) (e .set)
 
-  unfoldable pub satisfyState : ℕ → List State → List State
-  unfolding foldOver satisfy
-  satisfyState s least = foldOver (satisfy s) (getD least s []) least
+  unfoldable pub entryClosed : List State → ℕ → Entry → Bool
+  unfolding closes closing isBehindDot haveAt
+  entryClosed least s e = not (closes g (e .item) (e .set)) || haveAt least s (isBehindDot g (e .item)) (closing e)
+
+  unfoldable pub entrySettled : List State → ℕ → Entry → Bool
+  unfolding entryMoved entryClosed
+  entrySettled least s e = entryMoved least e && entryClosed least s e
+
+  -- entry k of state s hands on, with the set that it has by now
+  unfoldable pub moveEntry : ℕ → ℕ → List State → List State
+  unfolding entryAt moves giveAt
+  moveEntry s k least =
+      let e : Entry = entryAt least s k in
+      pick (moves g e) (giveAt (e .next) (eqb (e .item + 1)) (e .set) least) least
+
+  unfoldable pub closeEntry : ℕ → ℕ → List State → List State
+  unfolding entryAt closes closing isBehindDot giveAt
+  closeEntry s k least =
+      let e : Entry = entryAt least s k in
+      pick (closes g (e .item) (e .set)) (giveAt s (isBehindDot g (e .item)) (closing e) least) least
+
+  unfoldable pub settleEntry : ℕ → ℕ → List State → List State
+  unfolding moveEntry closeEntry
+  settleEntry s k least = closeEntry s k (moveEntry s k least)
+
+  unfoldable pub settleState : ℕ → List State → List State
+  unfolding foldOver settleEntry upTo
+  settleState s least = foldOver (settleEntry s) (upTo (length (getD least s []))) least
 
   -- of the states below count
   unfoldable pub leastSettled : ℕ → List State → Bool
-  unfolding eachOf satisfied upTo
-  leastSettled count least = eachOf (λ s. eachOf (satisfied least s) (getD least s [])) (upTo count)
+  unfolding eachOf entrySettled upTo
+  leastSettled count least = eachOf (λ s. eachOf (entrySettled least s) (getD least s [])) (upTo count)
 
   unfoldable pub leastRound : ℕ → List State → List State
-  unfolding foldOver satisfyState upTo
-  leastRound count least = foldOver satisfyState (upTo count) least
+  unfolding foldOver settleState upTo
+  leastRound count least = foldOver settleState (upTo count) least
 
   -- a round that is not the last adds one of n + 1 tokens to the set of an entry, so as many rounds suffice as there are pairs of
   -- entry and token
@@ -107,8 +125,8 @@ module _ (g : Grammar) (sets : Sets) where
 
   -- ---- the lowest state that fails
   unfoldable pub firstFailing : List State → ℕ
-  unfolding firstFrom fails leastSets
-  firstFailing states = let least : List State = leastSets states in firstFrom (fails g states least) (length states) 0
+  unfolding firstFrom failsAt leastSets
+  firstFailing states = let least : List State = leastSets states in firstFrom (failsAt g states least) (length states) 0
 
 unfoldable pub checked : Grammar → Outcome (List State) → Outcome (List State)
 unfolding firstFailing firstSets

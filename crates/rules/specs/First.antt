@@ -32,11 +32,18 @@ first0 n sets (nonterminal a ∷ xs) =
     let longer : TokenSet = join (without (setOf sets a) n) (first0 n sets xs) in
     pick (has (setOf sets a) n) longer (setOf sets a)
 
+-- the terminals that can begin a suffix, and whether it derives the empty string
+unfoldable pub beginning : ℕ → Sets → List Symbol → TokenSet
+unfolding first0 without
+beginning n sets xs = without (first0 n sets xs) n
+
+unfoldable pub mayBeEmpty : ℕ → Sets → List Symbol → Bool
+unfolding first0 has
+mayBeEmpty n sets xs = has (first0 n sets xs) n
+
 unfoldable pub first1 : ℕ → Sets → List Symbol → TokenSet → TokenSet
-unfolding first0 has join without
-first1 n sets xs lookahead =
-    let first : TokenSet = first0 n sets xs in
-    pick (has first n) (join (without first n) lookahead) first
+unfolding first0 beginning mayBeEmpty join
+first1 n sets xs lookahead = pick (mayBeEmpty n sets xs) (join (beginning n sets xs) lookahead) (first0 n sets xs)
 
 -- ---- FIRST of every nonterminal
 unfoldable pub addFirst : Grammar → ℕ → ℕ → Sets → Sets

@@ -13,7 +13,7 @@ use Rattle.base.specs.Loops.{firstFrom, until}
 use Rattle.base.specs.Lists.{upTo, greatest, keep, eachOf, foldOver}
 use Rattle.rules.specs.Limits.{Limits}
 use Rattle.rules.specs.Records.{Record, Grammar, at, records, badLength, isTerminal, isLeftSide, badRecord, outOfSequence}
-use Rattle.rules.specs.Tokens.{TokenSet, has, single, join}
+use Rattle.rules.specs.Tokens.{NumberSet, has, single, join}
 use Rattle.rules.specs.declared.GrammarRefusal.{GrammarRefusal}
 use Rattle.rules.specs.declared.GrammarRefusal.the-variants.{Length, BadRecord, OutOfSequence, StartAgain, NoProduction, NoString}
 use Rattle.rules.specs.declared.GrammarAnswer.{GrammarAnswer}
@@ -73,10 +73,10 @@ unfoldable pub leftSideOf : Grammar → ℕ → ℕ
 unfolding firstFrom at isLeftSide
 leftSideOf g p = firstFrom (λ i. isLeftSide (at g i) && eqb (at g i .production) p) (length g) 0
 
--- the nonterminal on the left of item i's production
+-- the nonterminal on the left of production p
 unfoldable pub leftOf : Grammar → ℕ → ℕ
 unfolding at leftSideOf
-leftOf g i = at g (leftSideOf g (at g i .production)) .symbol
+leftOf g p = at g (leftSideOf g p) .symbol
 
 unfoldable pub start : Grammar → ℕ
 unfolding at
@@ -107,26 +107,26 @@ hasProduction g a = ltb (firstFrom (isLeftSideOf g a) (length g) 0) (length g)
 
 -- ---- refusal 8: a nonterminal derives no string of terminals. The nonterminals that derive one are collected in rounds over the
 -- productions: one whose right side has only terminals and collected nonterminals adds its left side.
-unfoldable pub symbolDerives : TokenSet → Symbol → Bool
+unfoldable pub symbolDerives : NumberSet → Symbol → Bool
 unfolding has
 symbolDerives found (nonterminal a) = has found a
 symbolDerives found (terminal t) = true
 
-unfoldable pub sideDerives : Grammar → TokenSet → ℕ → Bool
+unfoldable pub sideDerives : Grammar → NumberSet → ℕ → Bool
 unfolding eachOf symbolDerives symbolsBehind
 sideDerives g found i = eachOf (symbolDerives found) (symbolsBehind g i)
 
-unfoldable pub collect : Grammar → ℕ → TokenSet → TokenSet
+unfoldable pub collect : Grammar → ℕ → NumberSet → NumberSet
 unfolding at sideDerives single join
 collect g i found = pick (sideDerives g found i) (join found (single (at g i .symbol))) found
 
 -- every production whose right side derives a string has its left side collected
-unfoldable pub allCollected : Grammar → TokenSet → Bool
+unfoldable pub allCollected : Grammar → NumberSet → Bool
 unfolding at eachOf leftSides has sideDerives
 allCollected g found = eachOf (λ i. not (sideDerives g found i) || has found (at g i .symbol)) (leftSides g)
 
 -- a round that is not the last collects one of the m nonterminals, so m rounds suffice
-unfoldable pub productive : Grammar → TokenSet
+unfoldable pub productive : Grammar → NumberSet
 unfolding until allCollected foldOver leftSides collect nonterminalCount
 productive g = until (allCollected g) (foldOver (collect g) (leftSides g)) (nonterminalCount g) 0
 
@@ -145,7 +145,7 @@ firstWithout g = firstFrom (λ a. not (hasProduction g a)) (nonterminalCount g) 
 
 unfoldable pub firstBarren : Grammar → ℕ
 unfolding firstFrom has productive nonterminalCount
-firstBarren g = let found : TokenSet = productive g in firstFrom (λ a. not (has found a)) (nonterminalCount g) 0
+firstBarren g = let found : NumberSet = productive g in firstFrom (λ a. not (has found a)) (nonterminalCount g) 0
 
 -- 4 before 5 within a record
 unfoldable pub faultAt : Limits → Grammar → ℕ → GrammarRefusal

@@ -11,9 +11,9 @@ use lib.Dec.{eqb}
 use Rattle.base.specs.Pick.{pick}
 use Rattle.base.specs.Lists.{upTo, keep, someOf, eachOf, foldOver, isEmpty}
 use Rattle.rules.specs.Records.{Grammar, at}
-use Rattle.rules.specs.Tokens.{TokenSet, has, single, join, disjoint, without, eof}
+use Rattle.rules.specs.Tokens.{NumberSet, TokenSet, has, single, join, disjoint, eof}
 use Rattle.rules.specs.Grammar.{Symbol, nonterminal, symbolOf, atStart, isBefore, symbolsBehind, start, terminalCount}
-use Rattle.rules.specs.First.{Sets, first0}
+use Rattle.rules.specs.First.{Sets, beginning, mayBeEmpty}
 use Rattle.rules.specs.States.{Entry, State, reductions, shifts}
 
 -- ---- actions
@@ -62,8 +62,8 @@ pub record Row : Type 0 where
   pub columns : List TokenSet
   -- something was entered here, if only an empty set
   pub entered : Bool
-  -- the successors, as a set of states
-  pub successors : ℕ
+  -- a set of states
+  pub successors : NumberSet
 
 -- a row for each state
 abbrev pub LaneTable : Type 0
@@ -97,7 +97,7 @@ addSuccessor s successor table =
 -- the lane table, and the items visited in each state
 pub record Trace : Type 0 where
   pub table : LaneTable
-  pub visited : List ℕ
+  pub visited : List NumberSet
 
 unfoldable pub wasVisited : ℕ → ℕ → Trace → Bool
 unfolding has
@@ -120,18 +120,14 @@ unfoldable pub itemsBefore : Grammar → List State → ℕ → ℕ → List ℕ
 unfolding keep isBefore
 itemsBefore g states s a = keep (λ i. isBefore g (nonterminal a) i) (map (λ e. e .item) (getD states s []))
 
--- FIRST of what follows the nonterminal behind the dot of item i, with the mark; whether that can be empty; and without the mark
-unfoldable pub firstPast : Grammar → Sets → ℕ → TokenSet
-unfolding first0 symbolsBehind terminalCount
-firstPast g sets i = first0 (terminalCount g) sets (symbolsBehind g (i + 1))
-
-unfoldable pub mayBeEmpty : Grammar → Sets → ℕ → Bool
-unfolding firstPast has terminalCount
-mayBeEmpty g sets i = has (firstPast g sets i) (terminalCount g)
-
+-- FIRST of what follows the nonterminal behind the dot of item i, without the mark, and whether that can be empty
 unfoldable pub tokensPast : Grammar → Sets → ℕ → TokenSet
-unfolding firstPast without terminalCount
-tokensPast g sets i = without (firstPast g sets i) (terminalCount g)
+unfolding beginning symbolsBehind terminalCount
+tokensPast g sets i = beginning (terminalCount g) sets (symbolsBehind g (i + 1))
+
+unfoldable pub emptyPast : Grammar → Sets → ℕ → Bool
+unfolding mayBeEmpty symbolsBehind terminalCount
+emptyPast g sets i = mayBeEmpty (terminalCount g) sets (symbolsBehind g (i + 1))
 
 -- the start enters Eof
 unfoldable pub enterStart : Grammar → ℕ → ℕ → ℕ → Trace → Trace
@@ -142,7 +138,7 @@ module _ (g : Grammar) (sets : Sets) (states : List State) where
   -- The trace of column c back from item i in state s; lane/mod.rs: continue_trace. Each call that does not stop at once visits a
   -- pair of state and item that was not visited, so as many nested calls as there are pairs, and one that stops, suffice.
   unfoldable mutual
-    unfolding wasVisited visit at symbolOf atStart predecessors addSuccessor itemsBefore enter tokensPast mayBeEmpty enterStart foldOver
+    unfolding wasVisited visit at symbolOf atStart predecessors addSuccessor itemsBefore enter tokensPast emptyPast enterStart foldOver
 
     -- the dot is past 0: every predecessor over the symbol before the dot gets the state as successor, and the trace goes on there
     pub unShift : ℕ → ℕ → ℕ → ℕ → Trace → Trace
@@ -169,7 +165,7 @@ module _ (g : Grammar) (sets : Sets) (states : List State) where
           | true ↦ trace
           | false ↦
               foldOver
-              (λ j trace. elim (mayBeEmpty g sets j) [
+              (λ j trace. elim (emptyPast g sets j) [
                 | true ↦ elim (atStart g j) [
                   | true ↦ unClose fuel c s j (onTable (enter s c (tokensPast g sets j)) trace)
                   | false ↦ unShift fuel c s j (onTable (enter s c (tokensPast g sets j)) trace)
@@ -215,21 +211,27 @@ unfolding eachOf disjoint
 pairwiseDisjoint [] = true
 pairwiseDisjoint (c ∷ cs) = eachOf (disjoint c) cs && pairwiseDisjoint cs
 
+-- as many empty sets as the table has columns; its first row has as many as any
+unfoldable pub noColumns : LaneTable → List TokenSet
+unfolding rowOf
+noColumns table = replicate (length (rowOf table 0 .columns)) 0
+
 -- the columns joined over all states; table/mod.rs: columns
 unfoldable pub allColumns : LaneTable → List TokenSet
-unfolding foldOver joinColumns
-allColumns table = foldOver (λ row columns. joinColumns columns (row .columns)) table []
+unfolding foldOver joinColumns noColumns
+allColumns table = foldOver (λ row columns. joinColumns columns (row .columns)) table (noColumns table)
 
 -- no row overlaps within itself; table/mod.rs: rows
 unfoldable pub rowsDisjoint : LaneTable → Bool
 unfolding eachOf pairwiseDisjoint
 rowsDisjoint table = eachOf (λ row. pairwiseDisjoint (row .columns)) table
 
--- the states with an entry, even an empty set, that are nobody's successor, ascending; table/mod.rs: beachhead_states
+-- s is somebody's successor
 unfoldable pub isSuccessor : LaneTable → ℕ → Bool
 unfolding someOf has
 isSuccessor table s = someOf (λ row. has (row .successors) s) table
 
+-- the states with an entry, even an empty set, that are nobody's successor, ascending; table/mod.rs: beachhead_states
 unfoldable pub beachheads : LaneTable → List ℕ
 unfolding keep rowOf isSuccessor upTo
 beachheads table = keep (λ s. rowOf table s .entered && not (isSuccessor table s)) (upTo (length table))

@@ -12,11 +12,11 @@ use Rattle.base.specs.Pick.{pick}
 use Rattle.base.specs.Lists.{upTo, keep, placeOf, foldOver, isEmpty}
 use Rattle.rules.specs.Limits.{Limits}
 use Rattle.rules.specs.Records.{Grammar}
-use Rattle.rules.specs.Tokens.{TokenSet, has, single, join}
+use Rattle.rules.specs.Tokens.{NumberSet, TokenSet, has, single, join}
 use Rattle.rules.specs.Grammar.{atEnd}
 use Rattle.rules.specs.First.{Sets, firstSets}
 use Rattle.rules.specs.States.{Entry, State, Outcome, done, refused, eachInTurn, itemCount, conflictCount, lr0States}
-use Rattle.rules.specs.Lanes.{Action, isReduce, actionsAt, LaneTable, Row, rowOf, columnOf, laneTable, joinColumns, pairwiseDisjoint, allColumns, rowsDisjoint, beachheads}
+use Rattle.rules.specs.Lanes.{Action, isReduce, actionsAt, LaneTable, Row, rowOf, columnOf, laneTable, joinColumns, pairwiseDisjoint, noColumns, allColumns, rowsDisjoint, beachheads}
 use Rattle.rules.specs.declared.BuildRefusal.the-variants.{States as TooManyStates, Items as TooManyItems, Actions as TooManyActions, Conflicts}
 
 pub record Merge : Type 0 where
@@ -25,8 +25,8 @@ pub record Merge : Type 0 where
   pub origins : List ℕ
   -- the head of each state's group
   pub heads : List ℕ
-  -- the states walked, as a set
-  pub walked : ℕ
+  -- a set of states
+  pub walked : NumberSet
 
 unfoldable pub originOf : Merge → ℕ → ℕ
 originOf m s = getD (m .origins) s s
@@ -42,9 +42,9 @@ rowOfOrigin table m s = rowOf table (originOf m s)
 -- ---- groups
 -- the columns of a group: its members' rows, joined
 unfoldable pub groupColumns : LaneTable → Merge → ℕ → List TokenSet
-unfolding foldOver keep upTo headOf joinColumns rowOfOrigin
+unfolding foldOver keep upTo headOf joinColumns rowOfOrigin noColumns
 groupColumns table m head =
-    foldOver (λ s columns. joinColumns columns (rowOfOrigin table m s .columns)) (keep (λ s. eqb (headOf m s) head) (upTo (length (m .states)))) []
+    foldOver (λ s columns. joinColumns columns (rowOfOrigin table m s .columns)) (keep (λ s. eqb (headOf m s) head) (upTo (length (m .states)))) (noColumns table)
 
 -- the groups of s and t are one, or their columns stay disjoint when they are joined
 unfoldable pub canJoin : LaneTable → Merge → ℕ → ℕ → Bool
@@ -90,9 +90,9 @@ patchLinks g s successor clone m = record {
   walked = m .walked;
 }
 
-unfoldable pub walkOn : ℕ → Merge → Merge
+unfoldable pub markWalked : ℕ → Merge → Merge
 unfolding join single
-walkOn s m = record { states = m .states; origins = m .origins; heads = m .heads; walked = join (m .walked) (single s) }
+markWalked s m = record { states = m .states; origins = m .origins; heads = m .heads; walked = join (m .walked) (single s) }
 
 -- ---- the walk
 -- s and t are joined, where t stands in the successor's place: the successor itself, or a clone of it, to which s is linked
@@ -106,32 +106,32 @@ unfolding itemCount cloneState canJoin joined conflictCount
 joinNew l g table s successor m =
     let clone : ℕ = length (m .states) in
     let cloned : Merge = cloneState successor m in
-    let fails : Outcome Merge = refused (Conflicts (conflictCount g (cloned .states))) in
-    let joins : Outcome Merge = pick (canJoin table cloned s clone) (done (joined g s successor clone cloned)) fails in
+    let conflicting : Outcome Merge = refused (Conflicts (conflictCount g (cloned .states))) in
+    let joins : Outcome Merge = pick (canJoin table cloned s clone) (done (joined g s successor clone cloned)) conflicting in
     let fits : Outcome Merge = pick (ltb (l .items) (itemCount (cloned .states))) (refused TooManyItems) joins in
     pick (leb (l .states) clone) (refused TooManyStates) fits
 
--- the first of the successor and its clones, oldest first, that joins with s; past them if none does
-unfoldable pub firstJoining : LaneTable → Merge → ℕ → List ℕ → ℕ
+-- the place of the first of the successor and its clones, oldest first, that joins with s; past them if none does
+unfoldable pub placeJoining : LaneTable → Merge → ℕ → List ℕ → ℕ
 unfolding placeOf canJoin
-firstJoining table m s choices = placeOf (canJoin table m s) choices
+placeJoining table m s choices = placeOf (canJoin table m s) choices
 
--- the state in the successor's place is joined to s
+-- a join with s, and the state that stands in the successor's place
 pub record Joining : Type 0 where
   pub merge : Merge
-  pub with : ℕ
+  pub state : ℕ
 
 unfoldable pub withNew : ℕ → Outcome Merge → Outcome Joining
-withNew t (done m) = done (record { merge = m; with = t })
+withNew t (done m) = done (record { merge = m; state = t })
 withNew t (refused why) = refused why
 
 unfoldable pub joinSuccessor : Limits → Grammar → LaneTable → ℕ → ℕ → Merge → Outcome Joining
-unfolding clonesOf firstJoining joined withNew joinNew
+unfolding clonesOf placeJoining joined withNew joinNew
 joinSuccessor l g table s successor m =
     let choices : List ℕ = successor ∷ clonesOf m successor in
-    let k : ℕ = firstJoining table m s choices in
+    let k : ℕ = placeJoining table m s choices in
     let t : ℕ = getD choices k 0 in
-    let old : Outcome Joining = done (record { merge = joined g s successor t m; with = t }) in
+    let old : Outcome Joining = done (record { merge = joined g s successor t m; state = t }) in
     let new : Outcome Joining = withNew (length (m .states)) (joinNew l g table s successor m) in
     pick (ltb k (length choices)) old new
 
@@ -143,16 +143,16 @@ successorsOf table m s = keep (has (rowOfOrigin table m s .successors)) (upTo (l
 -- merge.rs: walk. Depth first: into a joined successor before the next one is joined. Each call that does not stop at once walks a
 -- state that was not walked, so as many nested calls as there can be states, and one that stops, suffice
 unfoldable pub walk : Limits → Grammar → LaneTable → ℕ → ℕ → Merge → Outcome Merge
-unfolding has walkOn successorsOf joinSuccessor eachInTurn
+unfolding has markWalked successorsOf joinSuccessor eachInTurn
 walk l g table zero s m = done m
 walk l g table (suc fuel) s m =
     elim (has (m .walked) s) [
       | true ↦ done m
       | false ↦
           eachInTurn
-          (λ successor m. elim (joinSuccessor l g table s successor m) [ done j ↦ walk l g table fuel (j .with) (j .merge) | refused why ↦ refused why ])
+          (λ successor m. elim (joinSuccessor l g table s successor m) [ done j ↦ walk l g table fuel (j .state) (j .merge) | refused why ↦ refused why ])
           (successorsOf table m s)
-          (walkOn s m)
+          (markWalked s m)
     ]
 
 -- ---- what the reductions take
@@ -184,20 +184,20 @@ merged table actions s (done m) = done (takeAll table actions s m)
 merged table actions s (refused why) = refused why
 
 -- the columns of the lane table overlap: a row that overlaps within itself ends in 12, else the walks begin at the beachheads
-unfoldable pub split : Limits → Grammar → List State → ℕ → List Action → LaneTable → Outcome (List State)
+unfoldable pub mergeRows : Limits → Grammar → List State → ℕ → List Action → LaneTable → Outcome (List State)
 unfolding rowsDisjoint conflictCount merged eachInTurn walk beachheads mergeBegun
-split l g states s actions table =
-    let fails : Outcome (List State) = refused (Conflicts (conflictCount g states)) in
+mergeRows l g states s actions table =
+    let overlapping : Outcome (List State) = refused (Conflicts (conflictCount g states)) in
     let walks : Outcome (List State) = merged table actions s (eachInTurn (walk l g table (l .states + 1)) (beachheads table) (mergeBegun states)) in
-    pick (rowsDisjoint table) walks fails
+    pick (rowsDisjoint table) walks overlapping
 
 -- if the columns, joined over all states, are pairwise disjoint, each reduction takes its column
 unfoldable pub resolveBy : Limits → Grammar → List State → ℕ → List Action → LaneTable → Outcome (List State)
-unfolding allColumns pairwiseDisjoint takeColumns split
+unfolding allColumns pairwiseDisjoint takeColumns mergeRows
 resolveBy l g states s actions table =
     let columns : List TokenSet = allColumns table in
     let taken : Outcome (List State) = done (set states s (takeColumns actions columns (getD states s []))) in
-    let walks : Outcome (List State) = split l g states s actions table in
+    let walks : Outcome (List State) = mergeRows l g states s actions table in
     pick (pairwiseDisjoint columns) taken walks
 
 -- a state with no action is left; 11 is tried before anything is traced

@@ -10,8 +10,8 @@ use mathlib.Core.List.{List}
 use lib.ListN.{length, getD, set}
 use lib.Dec.{eqb, leb}
 use Rattle.base.specs.Pick.{pick}
-use Rattle.rules.specs.Records.{Grammar, at}
-use Rattle.rules.specs.Grammar.{leftSideOf, symbolsBehind, terminalCount}
+use Rattle.rules.specs.Records.{Grammar}
+use Rattle.rules.specs.Grammar.{leftSideOf, leftOf, symbolsBehind, terminalCount}
 use Rattle.rules.specs.declared.RunEnd.{RunEnd}
 use Rattle.rules.specs.declared.RunEnd.the-variants.{Accepted, Rejected, Broken, ListFull, StackFull, StepLimit}
 use Rattle.rules.specs.declared.RunAnswer.{RunAnswer}
@@ -46,14 +46,10 @@ pub record RunResult (S : Type 0) : Type 0 where
   pub stack : List S
   pub list : List ℕ
 
--- how many symbols production p has on its right, and the nonterminal on its left
+-- how many symbols production p has on its right
 unfoldable pub sideLength : Grammar → ℕ → ℕ
 unfolding symbolsBehind leftSideOf
 sideLength g p = length (symbolsBehind g (leftSideOf g p))
-
-unfoldable pub productionLeft : Grammar → ℕ → ℕ
-unfolding at leftSideOf
-productionLeft g p = at g (leftSideOf g p) .symbol
 
 module _ {S : Type 0} where
   abbrev pub shifted : S → Standing S → Standing S
@@ -129,11 +125,11 @@ module _ {S : Type 0} where
       (ends Broken s)
 
   unfoldable pub moveReduce : Table S → Grammar → List ℕ → ℕ → Standing S → Moved S
-  unfolding moveEnd moveGoto stateUnder sideLength productionLeft
+  unfolding moveEnd moveGoto stateUnder sideLength leftOf
   moveReduce table g tokens zero s = moveEnd g tokens s
   moveReduce table g tokens (suc p) s =
       pick (leb (s .depth) (sideLength g (suc p))) (ends Broken s)
-      (moveGoto g (suc p) (table .goto (stateUnder table (sideLength g (suc p)) s) (productionLeft g (suc p))) s)
+      (moveGoto g (suc p) (table .goto (stateUnder table (sideLength g (suc p)) s) (leftOf g (suc p))) s)
 
 -- ---- the run
 -- the token at a place, and Eof at the end

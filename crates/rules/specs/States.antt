@@ -20,7 +20,7 @@ use Rattle.base.specs.Loops.{until}
 use Rattle.base.specs.Lists.{upTo, sum, keep, someOf, eachOf, placeOf, foldOver, isEmpty}
 use Rattle.rules.specs.Limits.{Limits}
 use Rattle.rules.specs.Records.{Grammar, at, isTerminal}
-use Rattle.rules.specs.Tokens.{TokenSet, has, disjoint, within, eof, all}
+use Rattle.rules.specs.Tokens.{TokenSet, has, isEmptySet, disjoint, within, eof, all}
 use Rattle.rules.specs.Grammar.{Symbol, nonterminal, terminal, atEnd, isBefore, symbolsBehind, leftSides, terminalCount, nonterminalCount}
 use Rattle.rules.specs.First.{Sets, setOf, joinAt, first1, firstSets}
 use Rattle.rules.specs.declared.BuildRefusal.{BuildRefusal}
@@ -49,43 +49,45 @@ eachInTurn step (x ∷ xs) b = elim (step x b) [ done b′ ↦ eachInTurn step x
 abbrev pub Follow : Type 0
 Follow = List Symbol → TokenSet → TokenSet
 
-unfoldable pub noSet : TokenSet → Bool
-noSet s = eqb s 0
+-- item i, with that set, has a nonterminal behind its dot; the empty set means that the item is absent
+unfoldable pub closes : Grammar → ℕ → TokenSet → Bool
+unfolding isEmptySet atEnd isTerminal at
+closes g i s = not (isEmptySet s) && (not (atEnd g i) && not (isTerminal (at g (i + 1))))
 
--- item i, with that set, asks for the nonterminal behind its dot
-unfoldable pub asks : Grammar → ℕ → TokenSet → Bool
-unfolding noSet atEnd isTerminal at
-asks g i s = not (noSet s) && (not (atEnd g i) && not (isTerminal (at g (i + 1))))
+-- what item i hands on to the items of that nonterminal
+unfoldable pub handsOn : Grammar → Follow → ℕ → TokenSet → TokenSet
+unfolding symbolsBehind
+handsOn g follow i s = follow (symbolsBehind g (i + 1)) s
 
-unfoldable pub ask : Grammar → Follow → ℕ → TokenSet → Sets → Sets
-unfolding asks joinAt at symbolsBehind
-ask g follow i s sets = pick (asks g i s) (joinAt (at g (i + 1) .symbol) (follow (symbolsBehind g (i + 1)) s) sets) sets
+unfoldable pub closeItem : Grammar → Follow → ℕ → TokenSet → Sets → Sets
+unfolding closes joinAt at handsOn
+closeItem g follow i s sets = pick (closes g i s) (joinAt (at g (i + 1) .symbol) (handsOn g follow i s) sets) sets
 
--- what item i asks for is there
-unfoldable pub answeredBy : Grammar → Follow → Sets → ℕ → TokenSet → Bool
-unfolding asks within setOf at symbolsBehind
-answeredBy g follow sets i s = not (asks g i s) || within (follow (symbolsBehind g (i + 1)) s) (setOf sets (at g (i + 1) .symbol))
+-- what item i hands on is there
+unfoldable pub itemClosed : Grammar → Follow → Sets → ℕ → TokenSet → Bool
+unfolding closes within setOf at handsOn
+itemClosed g follow sets i s = not (closes g i s) || within (handsOn g follow i s) (setOf sets (at g (i + 1) .symbol))
 
-unfoldable pub askEntries : Grammar → Follow → State → Sets → Sets
-unfolding foldOver ask
-askEntries g follow kernel sets = foldOver (λ e sets. ask g follow (e .item) (e .set) sets) kernel sets
+unfoldable pub closeKernel : Grammar → Follow → State → Sets → Sets
+unfolding foldOver closeItem
+closeKernel g follow kernel sets = foldOver (λ e sets. closeItem g follow (e .item) (e .set) sets) kernel sets
 
--- the left-side record i asks with the set that its nonterminal has; the empty set means that it is absent
-unfoldable pub askLeftSides : Grammar → Follow → Sets → Sets
-unfolding foldOver ask leftSides setOf at
-askLeftSides g follow sets = foldOver (λ i sets. ask g follow i (setOf sets (at g i .symbol)) sets) (leftSides g) sets
+-- the left-side record i has the set of its nonterminal
+unfoldable pub closeLeftSides : Grammar → Follow → Sets → Sets
+unfolding foldOver closeItem leftSides setOf at
+closeLeftSides g follow sets = foldOver (λ i sets. closeItem g follow i (setOf sets (at g i .symbol)) sets) (leftSides g) sets
 
 unfoldable pub closureSettled : Grammar → Follow → Sets → Bool
-unfolding eachOf answeredBy setOf at leftSides
-closureSettled g follow sets = eachOf (λ i. answeredBy g follow sets i (setOf sets (at g i .symbol))) (leftSides g)
+unfolding eachOf itemClosed setOf at leftSides
+closureSettled g follow sets = eachOf (λ i. itemClosed g follow sets i (setOf sets (at g i .symbol))) (leftSides g)
 
 -- the set of every nonterminal in the closure of a kernel. A round that is not the last adds one of n + 1 tokens to one of m sets,
 -- so m (n + 1) rounds suffice
 unfoldable pub closureSets : Grammar → Follow → State → Sets
-unfolding until closureSettled askLeftSides askEntries terminalCount nonterminalCount
+unfolding until closureSettled closeLeftSides closeKernel terminalCount nonterminalCount
 closureSets g follow kernel =
     let m : ℕ = nonterminalCount g in
-    until (closureSettled g follow) (askLeftSides g follow) (m * (terminalCount g + 1)) (askEntries g follow kernel (replicate m 0))
+    until (closureSettled g follow) (closeLeftSides g follow) (m * (terminalCount g + 1)) (closeKernel g follow kernel (replicate m 0))
 
 unfoldable pub entryOf : Grammar → Sets → ℕ → Entry
 unfolding setOf at
@@ -93,10 +95,10 @@ entryOf g sets i = record { item = i; next = 0; set = setOf sets (at g i .symbol
 
 -- build/mod.rs: transitive_closure
 unfoldable pub closure : Grammar → Follow → State → State
-unfolding closureSets keep entryOf noSet leftSides
+unfolding closureSets keep entryOf isEmptySet leftSides
 closure g follow kernel =
     let sets : Sets = closureSets g follow kernel in
-    kernel ++ keep (λ e. not (noSet (e .set))) (map (entryOf g sets) (leftSides g))
+    kernel ++ keep (λ e. not (isEmptySet (e .set))) (map (entryOf g sets) (leftSides g))
 
 -- ---- transitions
 -- what the entries become over x
