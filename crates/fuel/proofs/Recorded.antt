@@ -5,9 +5,8 @@ use mathlib.Core.Logic.{⊎-elim}
 use mathlib.Core.Bool.{Bool, true, false, not}
 use mathlib.Core.List.{List, [], _∷_, _++_, map}
 use lib.ListN.{length, getD, set}
-use lib.Dec.{eqb, leb, ltb}
+use lib.Dec.{eqb, ltb}
 use borrow.Author.Tests.{not-true}
-use Rattle.base.specs.Pick.{pick}
 use Rattle.base.specs.Lists.{isEmpty, placeOf}
 use Rattle.base.specs.Among.{Among, here, later}
 use Rattle.base.proofs.Lists.{among-none, among-cons, keep-among, upTo-among}
@@ -21,10 +20,10 @@ use Rattle.rules.specs.Grammar.{Symbol, atStart, atEnd, isBefore, leftSides}
 use Rattle.rules.specs.First.{Sets}
 use Rattle.rules.specs.States.{eachInTurn, Entry, State, Outcome, done, refused, Follow, entryOf, closureSets, closure, kernelOver, sameKernel, symbols, lead, Expansion, addTransition, Collection, itemCount, expanded, expandNext, expandAll, statesFrom}
 use Rattle.rules.specs.Lanes.{Action, LaneTable, laneTable}
-use Rattle.rules.specs.Merge.{Merge, canJoin, joinGroups, clonesOf, cloneState, patchLinks, markWalked, joined, joinNew, placeJoining, withNew, joinSuccessor, walk, takeColumn, takeColumns, resolve}
+use Rattle.rules.specs.Merge.{Merge, joinGroups, cloneState, patchLinks, markWalked, walk, takeColumn, takeColumns, mergeBegun, resolve}
 use Rattle.fuel.proofs.Outcomes.{Holds, holds-pick, holds-in-turn}
 use Rattle.fuel.proofs.Resolve.{resolve-keeps}
-use Rattle.fuel.proofs.Walk.{walk-keeps}
+use Rattle.fuel.proofs.Walk.{steps-keep}
 
 module _ (g : Grammar) where
   -- every item of the state is a record
@@ -40,7 +39,7 @@ module _ (g : Grammar) where
       let (f, k, q) = map-among change state m in
       rw (q, same f) (h f k)
 
-  moved-recorded : (x : Symbol) (state : State) → Recorded (kernelOver g x state)
+  pub moved-recorded : (x : Symbol) (state : State) → Recorded (kernelOver g x state)
   unfolding kernelOver isBefore
   moved-recorded x state e m =
       let (f, k, q) = map-among (λ (e : Entry). record { item = e .item + 1; next = 0; set = e .set }) _ m in
@@ -51,7 +50,7 @@ module _ (g : Grammar) where
   unfolding leftSides
   left-side-within i m = upTo-among i (length g) .0 (keep-among (atStart g) _ m .0)
 
-  closure-recorded : (follow : Follow) (kernel : State) → Recorded kernel → Recorded (closure g follow kernel)
+  pub closure-recorded : (follow : Follow) (kernel : State) → Recorded kernel → Recorded (closure g follow kernel)
   unfolding closure entryOf
   closure-recorded follow kernel h e m =
       ⊎-elim (h e)
@@ -142,14 +141,6 @@ module _ (g : Grammar) where
   unfolding patchLinks
   links-recorded s successor clone m h = set-recorded (m .states) s _ h (same-items-recorded _ (λ e. refl) (getD (m .states) s []) (at-recorded (m .states) s h))
 
-  joined-recorded : (s successor t : ℕ) (m : Merge) → Kept m → Kept (joined g s successor t m)
-  unfolding joined joinGroups
-  joined-recorded s successor t m h = by-test (eqb t successor)
-    where
-      by-test : (b : Bool) → Kept (pick b (joinGroups s t m) (patchLinks g s successor t (joinGroups s t m)))
-      by-test true = h
-      by-test false = links-recorded s successor t (joinGroups s t m) h
-
   clone-recorded : (s : ℕ) (m : Merge) → Kept m → Kept (cloneState s m)
   unfolding cloneState
   clone-recorded s m h = added-recorded (m .states) (getD (m .states) s []) h (at-recorded (m .states) s h)
@@ -161,36 +152,15 @@ module _ (g : Grammar) where
       set-recorded states t _ h (same-items-recorded (takeColumn actions columns) (λ e. refl) (getD states t []) (at-recorded states t h))
 
   module _ (l : Limits) where
-    new-recorded : (table : LaneTable) (s successor : ℕ) (m : Merge) → Kept m → Holds Kept (joinNew l g table s successor m)
-    unfolding joinNew
-    new-recorded table s successor m h =
-        let clone : ℕ = length (m .states) in
-        let cloned : Merge = cloneState successor m in
-        holds-pick Kept (leb (l .states) clone) _ _ (λ _. tt)
-        (λ _. holds-pick Kept (ltb (l .items) (itemCount (cloned .states))) _ _ (λ _. tt)
-        (λ _. holds-pick Kept (canJoin table cloned s clone) _ _ (λ _. joined-recorded s successor clone cloned (clone-recorded successor m h)) (λ _. tt)))
-
-    with-new-recorded : (t : ℕ) (o : Outcome Merge) → Holds Kept o → Holds (λ j. Kept (j .merge)) (withNew t o)
-    unfolding withNew
-    with-new-recorded t (done m) h = h
-    with-new-recorded t (refused why) h = tt
-
-    successor-recorded : (table : LaneTable) (s successor : ℕ) (m : Merge) → Kept m → Holds (λ j. Kept (j .merge)) (joinSuccessor l g table s successor m)
-    unfolding joinSuccessor
-    successor-recorded table s successor m h =
-        let choices : List ℕ = successor ∷ clonesOf m successor in
-        let k : ℕ = placeJoining table m s choices in
-        holds-pick (λ j. Kept (j .merge)) (ltb k (length choices)) _ _ (λ _. joined-recorded s successor (getD choices k 0) m h)
-        (λ _. with-new-recorded (length (m .states)) (joinNew l g table s successor m) (new-recorded table s successor m h))
-
     walk-recorded : (table : LaneTable) (fuel s : ℕ) (m : Merge) → Kept m → Holds Kept (walk l g table fuel s m)
-    unfolding markWalked
-    walk-recorded table = walk-keeps l g table Kept (λ s m h. h) (λ m₀ s successor among m h. successor-recorded table s successor m h)
+    unfolding markWalked joinGroups
+    walk-recorded = steps-keep l g Kept (λ s m h. h) (λ s t m h. h) links-recorded clone-recorded
 
     -- ---- a visit
     pub resolve-recorded : (sets : Sets) (s : ℕ) (states : List State) → AllRecorded states → Holds AllRecorded (resolve l g sets s states)
+    unfolding mergeBegun
     resolve-recorded sets s states h =
-        resolve-keeps l g AllRecorded take-all-recorded sets s states (λ actions. walk-recorded (laneTable g sets states s actions) (l .states + 1)) h
+        resolve-keeps l g AllRecorded Kept take-all-recorded (λ m k. k) states (λ k. k) sets s (λ actions. walk-recorded (laneTable g sets states s actions) (l .states + 1)) h
 
   -- as the fuel of a trace asks it
   pub traces-recorded : (states : List State) → AllRecorded states → (s i : ℕ) → Among i (map (λ (e : Entry). e .item) (getD states s [])) → i < length g

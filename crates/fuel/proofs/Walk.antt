@@ -55,6 +55,43 @@ module _ (l : Limits) (g : Grammar) (table : LaneTable) where
             (λ successor among m′ p′. by-joining (joinSuccessor l g table s successor m′) (joining m s successor among m′ p′) more)
             (markWalked s m) (marking s m p)
 
+-- what marking a state, joining groups, linking to a clone and cloning keep, whatever the states, a walk keeps
+module _ (l : Limits) (g : Grammar) (Q : Merge → Type 0) (marking : (s : ℕ) (m : Merge) → Q m → Q (markWalked s m)) (grouping : (s t : ℕ) (m : Merge) → Q m → Q (joinGroups s t m))
+    (patching : (s successor clone : ℕ) (m : Merge) → Q m → Q (patchLinks g s successor clone m)) (cloning : (s : ℕ) (m : Merge) → Q m → Q (cloneState s m)) where
+  joined-keeps : (s successor t : ℕ) (m : Merge) → Q m → Q (joined g s successor t m)
+  unfolding joined
+  joined-keeps s successor t m h = by-test (eqb t successor)
+    where
+      by-test : (b : Bool) → Q (pick b (joinGroups s t m) (patchLinks g s successor t (joinGroups s t m)))
+      by-test true = grouping s t m h
+      by-test false = patching s successor t (joinGroups s t m) (grouping s t m h)
+
+  module _ (table : LaneTable) where
+    new-keeps : (s successor : ℕ) (m : Merge) → Q m → Holds Q (joinNew l g table s successor m)
+    unfolding joinNew
+    new-keeps s successor m h =
+        let clone : ℕ = length (m .states) in
+        let cloned : Merge = cloneState successor m in
+        holds-pick Q (leb (l .states) clone) _ _ (λ _. tt)
+        (λ _. holds-pick Q (ltb (l .items) (itemCount (cloned .states))) _ _ (λ _. tt)
+        (λ _. holds-pick Q (canJoin table cloned s clone) _ _ (λ _. joined-keeps s successor clone cloned (cloning successor m h)) (λ _. tt)))
+
+    with-new-keeps : (t : ℕ) (o : Outcome Merge) → Holds Q o → Holds (λ j. Q (j .merge)) (withNew t o)
+    unfolding withNew
+    with-new-keeps t (done m) h = h
+    with-new-keeps t (refused why) h = tt
+
+    successor-keeps : (s successor : ℕ) (m : Merge) → Q m → Holds (λ j. Q (j .merge)) (joinSuccessor l g table s successor m)
+    unfolding joinSuccessor
+    successor-keeps s successor m h =
+        let choices : List ℕ = successor ∷ clonesOf m successor in
+        let k : ℕ = placeJoining table m s choices in
+        holds-pick (λ j. Q (j .merge)) (ltb k (length choices)) _ _ (λ _. joined-keeps s successor (getD choices k 0) m h)
+        (λ _. with-new-keeps (length (m .states)) (joinNew l g table s successor m) (new-keeps s successor m h))
+
+    pub steps-keep : (fuel s : ℕ) (m : Merge) → Q m → Holds Q (walk l g table fuel s m)
+    steps-keep = walk-keeps l g table Q marking (λ m₀ s successor among m h. successor-keeps s successor m h)
+
 module _ (l : Limits) (g : Grammar) (table : LaneTable) (rows : length table ≤ l .states) where
   abbrev pub Fits : Merge → Type 0
   Fits m = length (m .states) ≤ l .states

@@ -1,35 +1,32 @@
 -- The item set of a stack of symbols, as `rules`' closures and transitions compute it, has Knuth's items of the stack and no others. So it
 -- is decided what a stack awaits and where it reduces, and every coded grammar that is LR(1) has Knuth's table.
-use Prim.Native.Nat.{ℕ, _+_, _-_, _*_, _^_, _<_}
+use Prim.Native.Nat.{ℕ, _+_, _-_, _<_}
 use mathlib.Core.Path.{_≡_, refl, sym, ap, _∙_}
-use mathlib.Core.Logic.{_⊎_, inl, inr, ⊎-elim}
+use mathlib.Core.Logic.{⊎-elim}
 use mathlib.Core.Bool.{Bool, true, false, _&&_, not, true≢false}
-use mathlib.Core.List.{List, [], _∷_, map}
+use mathlib.Core.List.{List, [], _∷_}
 use native.Mathlib.Omega.{arith}
-use lib.ListN.{length, replicate}
+use lib.ListN.{length}
 use lib.Dec.{eqb}
 use borrow.Author.Tests.{eqb-true, eqb-false, eq-eqb, ne-eqb, not-true, not-false}
-use Rattle.base.specs.Pick.{pick}
 use Rattle.base.specs.Among.{Among, here}
-use Rattle.base.specs.Lists.{keep, someOf}
-use Rattle.base.proofs.Lists.{among-none, among-cons, among-map, keep-among, among-keep, upTo-among, fold-keeps, at-replicate}
-use Rattle.base.proofs.Members.{among-append, append-left, append-right, map-among}
+use Rattle.base.specs.Lists.{someOf}
+use Rattle.base.proofs.Lists.{among-none, among-cons, among-map, keep-among, among-keep, upTo-among}
+use Rattle.base.proofs.Members.{map-among}
 use Rattle.base.proofs.Tests.{both-true, either-true, or-false, some-true, true-some}
-use Rattle.base.proofs.Until.{rounds-keep}
 use Rattle.rules.specs.Limits.{Limits}
 use Rattle.rules.proofs.Laws.{not-at-end-within}
 use Rattle.rules.specs.Records.{Record, Grammar, at, isTerminal, isLeftSide, badRecord, comesBehind, inSequence, outOfSequence}
 use Rattle.rules.specs.Tokens.{TokenSet, Has, has, isEmptySet, eof}
-use Rattle.rules.specs.Grammar.{Symbol, nonterminal, atStart, atEnd, isBefore, symbolsBehind, leftSides, start, namesStart, terminalCount, nonterminalCount}
-use Rattle.rules.specs.First.{Sets, setOf, joinAt}
+use Rattle.rules.specs.Grammar.{Symbol, nonterminal, atStart, atEnd, isBefore, symbolsBehind, leftSides, start, namesStart, terminalCount}
+use Rattle.rules.specs.First.{Sets, setOf}
 use Rattle.rules.specs.Run.{Table}
-use Rattle.rules.specs.States.{Entry, State, closes, handsOn, closeItem, closeKernel, closeLeftSides, closureSettled, closureSets, entryOf, closure, kernelOver}
+use Rattle.rules.specs.States.{Entry, State, closes, handsOn, closureSets, entryOf, kernelOver}
 use Rattle.sets.proofs.Laws.{has-true, has-none, has-eof, single-below, some-token}
-use Rattle.sets.proofs.Tables.{joinAt-only}
 use Rattle.knuth.specs.Rules.{Rule}
 use Rattle.knuth.specs.Meaning.{First}
 use Rattle.knuth.specs.Coded.{Checked, NonterminalsLeft}
-use Rattle.knuth.specs.Covers.{HasItem}
+use Rattle.knuth.specs.Entries.{HasItem, AtItem}
 use Rattle.knuth.specs.Items.{At, start as begin, move, close, Awaits, Reduces}
 use Rattle.knuth.specs.LR1.{Clear}
 use Rattle.knuth.specs.Table.{KnuthTable, decided}
@@ -39,62 +36,36 @@ use Rattle.knuth.proofs.Productions.{rule-of-left-side, left-side-of-ru
 use Rattle.knuth.proofs.FirstSets.{first-behind-dot}
 use Rattle.knuth.proofs.Dots.{before-behind, symbol-behind, end-behind, at-end-behind}
 use Rattle.knuth.proofs.Table.{clear→table}
-use Rattle.knuth.proofs.Closures.{closes-behind, behind-closes, kernel-answered, left-side-answered, closure-in-range, canonical-follows-narrow}
+use Rattle.knuth.proofs.Closures.{closes-behind, behind-closes, canonical-follows-narrow}
+use Rattle.knuth.proofs.Kernels.{Good, kernel-in-closure, left-side-in-closure, closed-in-closure, closure-good, moved-good, closure-only}
 
 module _ (g : Grammar) where
   abbrev n : ℕ
   n = terminalCount g
 
-  -- ---- the sets of a kernel and of its closure have a token, and none over n
-  abbrev Good : State → Type 0
-  Good state = (e : Entry) → Among e state → (e .set < 2 ^ (n + 1)) × (e .set ≡ 0 → ⊥)
-
   abbrev setsAt : List Symbol → Sets
   setsAt γ = closureSets g (canonicalFollow g) (kernelAt g γ)
 
-  -- an entry of an item set is one of the kernel, or a left-side record with the set of its nonterminal, if that has a token
-  item-set-entry : (γ : List Symbol) (e : Entry) → Among e (itemSet g γ)
-      → Among e (kernelAt g γ) ⊎ ((i : ℕ) × Among i (leftSides g) × (e ≡ entryOf g (setsAt γ) i) × (e .set ≡ 0 → ⊥))
-  unfolding itemSet closure isEmptySet
-  item-set-entry γ e m = ⊎-elim inl (λ k. inr (left k)) (among-append (kernelAt g γ) m)
-    where
-      left : Among e (keep (λ e. not (isEmptySet (e .set))) (map (entryOf g (setsAt γ)) (leftSides g)))
-          → (i : ℕ) × Among i (leftSides g) × (e ≡ entryOf g (setsAt γ) i) × (e .set ≡ 0 → ⊥)
-      left k =
-          let (j, p) = keep-among (λ (e : Entry). not (isEmptySet (e .set))) (map (entryOf g (setsAt γ)) (leftSides g)) k in
-          let (i, q, r) = map-among (entryOf g (setsAt γ)) (leftSides g) j in
-          (i, q, r, eqb-false (e .set) 0 (not-true _ p))
-
   kernel-entry : (γ : List Symbol) (e : Entry) → Among e (kernelAt g γ) → Among e (itemSet g γ)
-  unfolding itemSet closure
-  kernel-entry γ e m = append-left _ m
+  unfolding itemSet
+  kernel-entry γ e m = kernel-in-closure g (canonicalFollow g) (kernelAt g γ) e m
 
-  left-side-entry : (γ : List Symbol) (i u : ℕ) → Among i (leftSides g) → Has (setOf (setsAt γ) (at g i .symbol)) u → Among (entryOf g (setsAt γ) i) (itemSet g γ)
-  unfolding itemSet closure isEmptySet entryOf
-  left-side-entry γ i u m h =
-      append-right (kernelAt g γ)
-      (among-keep (λ (e : Entry). not (isEmptySet (e .set))) (among-map (entryOf g (setsAt γ)) m)
-      (ap not (ne-eqb (setOf (setsAt γ) (at g i .symbol)) 0 (λ z. has-none u (rw z at h)))))
-
-  start-good : Good (startKernel g)
+  -- ---- the sets of a kernel and of its closure have a token, and none over n
+  start-good : Good g (startKernel g)
   unfolding startKernel
   start-good e m = ⊎-elim (λ q. rw q (single-below (n + 1) n (omega arith), λ z. has-none n (rw z at (has-eof n n .1 refl)))) (λ k. absurd (among-none k)) (among-cons m)
 
-  moved-good : (x : Symbol) (state : State) → Good state → Good (kernelOver g x state)
-  unfolding kernelOver
-  moved-good x state good e m =
-      let (f, k, q) = map-among (λ (e : Entry). record { item = e .item + 1; next = 0; set = e .set }) _ m in
-      rw q (good f (keep-among (λ (e : Entry). isBefore g x (e .item)) state k .0))
+  set-good : (γ : List Symbol) → Good g (kernelAt g γ) → Good g (itemSet g γ)
+  unfolding itemSet
+  set-good γ good = closure-good g (canonicalFollow g) (kernelAt g γ) (canonical-follows-narrow g) good
 
-  set-good : (γ : List Symbol) → Good (kernelAt g γ) → Good (itemSet g γ)
-  unfolding entryOf
-  set-good γ good e m =
-      ⊎-elim (good e) (λ (i, k, q, some). (rw q (closure-in-range g (canonicalFollow g) (canonical-follows-narrow g) (kernelAt g γ) (λ f j. good f j .0) .1 (at g i .symbol)), some)) (item-set-entry γ e m)
-
-  kernel-good : (γ : List Symbol) → Good (kernelAt g γ)
+  kernel-good : (γ : List Symbol) → Good g (kernelAt g γ)
   unfolding kernelAt itemSet
   kernel-good [] = start-good
-  kernel-good (x ∷ γ) = moved-good x (itemSet g γ) (set-good γ (kernel-good γ))
+  kernel-good (x ∷ γ) = moved-good g x (itemSet g γ) (set-good γ (kernel-good γ))
+
+  pub items-good : (γ : List Symbol) → Good g (itemSet g γ)
+  items-good γ = set-good γ (kernel-good γ)
 
 -- ---- what the check of a grammar says of its records
 comes-behind-same : (q r : Record) → comesBehind q r ≡ true → isLeftSide r ≡ false → r .production ≡ q .production
@@ -104,14 +75,14 @@ comes-behind-same q r e first =
     (λ f. absurd (true≢false (sym (both-true (eqb (r .production) (q .production + 1)) (eqb (r .position) 0) f .1) ∙ first)))
     (either-true (eqb (r .production) (q .production) && eqb (r .position) (q .position + 1)) (eqb (r .production) (q .production + 1) && eqb (r .position) 0) e)
 
-in-sequence-behind : (g : Grammar) (i : ℕ) → inSequence g (i + 1) ≡ true → comesBehind (at g i) (at g (i + 1)) ≡ true
+pub in-sequence-behind : (g : Grammar) (i : ℕ) → inSequence g (i + 1) ≡ true → comesBehind (at g i) (at g (i + 1)) ≡ true
 unfolding inSequence
 in-sequence-behind g i e =
     let k : i + 1 - 1 ≡ i = omega arith in
     let s : comesBehind (at g (i + 1 - 1)) (at g (i + 1)) ≡ true = rw (ne-eqb (i + 1) 0 (λ z. omega arith)) at e in
     rw k at s
 
-names-start-first : (g : Grammar) (i : ℕ) → isTerminal (at g i) ≡ false → at g i .symbol ≡ start g → namesStart g i ≡ false → i ≡ 0
+pub names-start-first : (g : Grammar) (i : ℕ) → isTerminal (at g i) ≡ false → at g i .symbol ≡ start g → namesStart g i ≡ false → i ≡ 0
 unfolding namesStart
 names-start-first g i nt e h = by-test (eqb i 0) refl h
   where
@@ -119,13 +90,13 @@ names-start-first g i nt e h = by-test (eqb i 0) refl h
     by-test true p h = eqb-true i 0 p
     by-test false p h = absurd (true≢false (rw (nt, eq-eqb (at g i .symbol) (start g) e) at h))
 
-before-not-at-end : (g : Grammar) (x : Symbol) (i : ℕ) → isBefore g x i ≡ true → atEnd g i ≡ false
+pub before-not-at-end : (g : Grammar) (x : Symbol) (i : ℕ) → isBefore g x i ≡ true → atEnd g i ≡ false
 unfolding isBefore
 before-not-at-end g x i e = not-true (atEnd g i) (both-true (not (atEnd g i)) _ e .0)
 
 module _ (l : Limits) (g : Grammar) (checked : Checked l g) where
   -- a production goes on where the dot is not at the end
-  same-production : (i : ℕ) → atEnd g i ≡ false → at g (i + 1) .production ≡ at g i .production
+  pub same-production : (i : ℕ) → atEnd g i ≡ false → at g (i + 1) .production ≡ at g i .production
   unfolding atEnd outOfSequence
   same-production i e =
       let (_, q) = or-false (badRecord l (at g (i + 1))) _ (checked .faultless (i + 1) (not-at-end-within g i e)) in
@@ -133,7 +104,7 @@ module _ (l : Limits) (g : Grammar) (checked : Checked l g) where
       comes-behind-same (at g i) (at g (i + 1)) (in-sequence-behind g i (not-false _ p)) e
 
   -- the start stands on the left of production 0 alone
-  start-is-first : {p : ℕ} {η : List Symbol} (r : Rule g p (start g) η) → r .leftSide ≡ 0
+  pub start-is-first : {p : ℕ} {η : List Symbol} (r : Rule g p (start g) η) → r .leftSide ≡ 0
   unfolding NonterminalsLeft isLeftSide
   start-is-first r =
       names-start-first g (r .leftSide) (checked-left l g checked (r .leftSide) (r .within) (eq-eqb _ _ (r .position))) (r .left) (checked .startOnce (r .leftSide) (r .within))
@@ -167,34 +138,19 @@ module _ (l : Limits) (g : Grammar) (checked : Checked l g) where
         token = h .token;
       }
 
-  -- the set of a nonterminal that an entry asks for has the tokens that follow it
-  closes-has : (γ : List Symbol) (e : Entry) → Among e (itemSet g γ) → (u : ℕ) → closes g (e .item) (e .set) ≡ true
-      → Has (handsOn g (canonicalFollow g) (e .item) (e .set)) u → Has (setOf (setsAt g γ) (at g (e .item + 1) .symbol)) u
-  unfolding entryOf
-  closes-has γ e m u a h =
-      ⊎-elim (λ k. kernel-answered g (canonicalFollow g) (canonical-follows-narrow g) (kernelAt g γ) small k u a h)
-      (λ (i, k, q, some).
-      let p : e .item ≡ i = ap (λ (e : Entry). e .item) q in
-      let s : e .set ≡ setOf (setsAt g γ) (at g i .symbol) = ap (λ (e : Entry). e .set) q in
-      rw p (left-side-answered g (canonicalFollow g) (canonical-follows-narrow g) (kernelAt g γ) small i k u (rw (p, s) at a) (rw (p, s) at h)))
-      (item-set-entry g γ e m)
-    where
-      small : (e : Entry) → Among e (kernelAt g γ) → e .set < 2 ^ (n g + 1)
-      small f k = kernel-good g γ f k .0
-
   has-closed : (γ : List Symbol) {β η : List Symbol} {p q B t u : ℕ} → HasItem g (itemSet g γ) p (nonterminal B ∷ β) t → Rule g q B η → First (Rule g) β t u
       → HasItem g (itemSet g γ) q η u
-  unfolding entryOf handsOn
+  unfolding entryOf itemSet
   has-closed γ {β} {B = B} {t = t} {u = u} h r f =
       let e : Entry = h .entry in
       let some : e .set ≡ 0 → ⊥ = λ z. has-none t (rw z at (h .token)) in
       let (a, b, rest) = closes-behind g (e .item) (e .set) B (h .behind) some in
       let first : Has (handsOn g (canonicalFollow g) (e .item) (e .set)) u =
       first-behind-dot l g checked (e .item + 1) .ahead-some (e .set) t u (h .token) .1 (t, h .token, rw rest f) in
-      let here : Has (setOf (setsAt g γ) B) u = rw b at (closes-has γ e (h .among) u a first) in
+      let here : Has (setOf (setsAt g γ) B) u = rw b at (closed-in-closure g (canonicalFollow g) (kernelAt g γ) (canonical-follows-narrow g) (kernel-good g γ) e (h .among) u a first) in
       record {
         entry = entryOf g (setsAt g γ) (r .leftSide);
-        among = left-side-entry g γ (r .leftSide) u (left-side-of-rule g r) (rw (r .left) here);
+        among = left-side-in-closure g (canonicalFollow g) (kernelAt g γ) (r .leftSide) u (left-side-of-rule g r) (rw (r .left) here);
         number = r .number;
         behind = r .right;
         token = rw (r .left) here;
@@ -206,12 +162,6 @@ module _ (l : Limits) (g : Grammar) (checked : Checked l g) where
   items-found (close {γ = γ} i r f) = has-closed γ (items-found i) r f
 
   -- ---- and no others
-  -- with γ read, item i may be at work, with the token t
-  pub record AtItem (γ : List Symbol) (i t : ℕ) : Type 0 where
-    pub left : ℕ
-    pub α : List Symbol
-    pub item : At (Rule g) S (n g) γ (at g i .production) left α (symbolsBehind g i) t
-
   -- some item of γ has B behind the dot, and u begins what follows B
   record Asked (γ : List Symbol) (B u : ℕ) : Type 0 where
     production : ℕ
@@ -223,22 +173,19 @@ module _ (l : Limits) (g : Grammar) (checked : Checked l g) where
     first : First (Rule g) β token u
 
   abbrev SoundState : List Symbol → State → Type 0
-  SoundState γ state = (e : Entry) → Among e state → (t : ℕ) → Has (e .set) t → AtItem γ (e .item) t
-
-  abbrev SoundSets : List Symbol → Sets → Type 0
-  SoundSets γ sets = (B u : ℕ) → Has (setOf sets B) u → Asked γ B u
+  SoundState γ state = (e : Entry) → Among e state → (t : ℕ) → Has (e .set) t → AtItem g γ (e .item) t
 
   -- the productions of a nonterminal that is asked for are at work
-  left-side-sound : (γ : List Symbol) (i t : ℕ) → Among i (leftSides g) → Asked γ (at g i .symbol) t → AtItem γ i t
+  left-side-sound : (γ : List Symbol) (i t : ℕ) → Among i (leftSides g) → Asked γ (at g i .symbol) t → AtItem g γ i t
   left-side-sound γ i t k a = record { left = at g i .symbol; α = []; item = close (a .item) (rule-of-left-side g i k) (a .first) }
 
-  closes-sound : (γ : List Symbol) (i : ℕ) (s : TokenSet) → ((t : ℕ) → Has s t → AtItem γ i t) → closes g i s ≡ true
+  closes-sound : (γ : List Symbol) (i : ℕ) (s : TokenSet) → ((t : ℕ) → Has s t → AtItem g γ i t) → closes g i s ≡ true
       → (u : ℕ) → Has (handsOn g (canonicalFollow g) i s) u → Asked γ (at g (i + 1) .symbol) u
   unfolding closes handsOn isEmptySet
   closes-sound γ i s sound a u h =
       let (t, k) = some-token s (eqb-false s 0 (not-true _ (both-true (not (isEmptySet s)) _ a .0))) in
       let (b, k′, f) = first-behind-dot l g checked (i + 1) .ahead-some s t u k .0 h in
-      let j : AtItem γ i b = sound b k′ in
+      let j : AtItem g γ i b = sound b k′ in
       record {
         production = at g i .production;
         left = j .left;
@@ -249,38 +196,9 @@ module _ (l : Limits) (g : Grammar) (checked : Checked l g) where
         first = f;
       }
 
-  close-item-sound : (γ : List Symbol) (i : ℕ) (s : TokenSet) → ((t : ℕ) → Has s t → AtItem γ i t) → (sets : Sets) → SoundSets γ sets
-      → SoundSets γ (closeItem g (canonicalFollow g) i s sets)
-  unfolding closeItem
-  close-item-sound γ i s sound sets h = by-test (closes g i s) refl
-    where
-      follows : TokenSet
-      follows = handsOn g (canonicalFollow g) i s
-
-      by-test : (d : Bool) → closes g i s ≡ d → SoundSets γ (pick d (joinAt (at g (i + 1) .symbol) follows sets) sets)
-      by-test true a B u k = ⊎-elim (h B u) (λ (e, f). rw e (closes-sound γ i s sound a u f)) (joinAt-only (at g (i + 1) .symbol) follows sets B u k)
-      by-test false a B u k = h B u k
-
-  closure-sound : (γ : List Symbol) → SoundState γ (kernelAt g γ) → SoundSets γ (setsAt g γ)
-  unfolding closureSets closeLeftSides closeKernel setOf
-  closure-sound γ sound =
-      let m : ℕ = nonterminalCount g in
-      let begun : SoundSets γ (replicate m 0) = λ B u h. absurd (has-none u (rw (at-replicate {A = ℕ} m 0 B) at h)) in
-      rounds-keep (closureSettled g (canonicalFollow g)) (λ i sets. closeItem g (canonicalFollow g) i (setOf sets (at g i .symbol)) sets) (SoundSets γ) (leftSides g)
-      (λ i k sets h. close-item-sound γ i (setOf sets (at g i .symbol)) (λ t j. left-side-sound γ i t k (h (at g i .symbol) t j)) sets h)
-      (m * (n g + 1)) (closeKernel g (canonicalFollow g) (kernelAt g γ) (replicate m 0))
-      (fold-keeps (λ e sets. closeItem g (canonicalFollow g) (e .item) (e .set) sets) (SoundSets γ) (kernelAt g γ)
-      (λ e k sets h. close-item-sound γ (e .item) (e .set) (sound e k) sets h) (replicate m 0) begun)
-
   set-sound : (γ : List Symbol) → SoundState γ (kernelAt g γ) → SoundState γ (itemSet g γ)
-  unfolding entryOf
-  set-sound γ sound e m t h =
-      ⊎-elim (λ k. sound e k t h)
-      (λ (i, k, q, some).
-      let p : e .item ≡ i = ap (λ (e : Entry). e .item) q in
-      let s : e .set ≡ setOf (setsAt g γ) (at g i .symbol) = ap (λ (e : Entry). e .set) q in
-      rw p (left-side-sound γ i t k (closure-sound γ sound (at g i .symbol) t (rw s at h))))
-      (item-set-entry g γ e m)
+  unfolding itemSet
+  set-sound γ sound = closure-only g (canonicalFollow g) (AtItem g γ) (Asked γ) (closes-sound γ) (left-side-sound γ) (kernelAt g γ) sound
 
   moved-sound : (γ : List Symbol) (x : Symbol) → SoundState γ (itemSet g γ) → SoundState (x ∷ γ) (kernelOver g x (itemSet g γ))
   unfolding kernelOver
@@ -288,12 +206,12 @@ module _ (l : Limits) (g : Grammar) (checked : Checked l g) where
       let (f, k, q) = map-among (λ (e : Entry). record { item = e .item + 1; next = 0; set = e .set }) _ m in
       let (j, before) = keep-among (λ (e : Entry). isBefore g x (e .item)) (itemSet g γ) k in
       let s : e .set ≡ f .set = ap (λ (e : Entry). e .set) q in
-      let i : AtItem γ (f .item) t = sound f j t (rw s at h) in
+      let i : AtItem g γ (f .item) t = sound f j t (rw s at h) in
       let read : At (Rule g) S (n g) γ (at g (f .item) .production) (i .left) (i .α) (x ∷ symbolsBehind g (f .item + 1)) t = rw (before-behind g (f .item) before) at (i .item) in
       rw q (record { left = i .left; α = x ∷ i .α; item = rw (same-production (f .item) (before-not-at-end g x (f .item) before)) (move read) })
 
   module _ (some : 0 < length g) where
-    first-is-left-side : Among 0 (leftSides g)
+    pub first-is-left-side : Among 0 (leftSides g)
     unfolding leftSides atStart isLeftSide outOfSequence inSequence
     first-is-left-side =
         let (_, q) = or-false (badRecord l (at g 0)) _ (checked .faultless 0 some) in
@@ -304,7 +222,7 @@ module _ (l : Limits) (g : Grammar) (checked : Checked l g) where
     unfolding startKernel start
     start-sound e m t h = ⊎-elim (λ q. rw q (begun (rw q at h))) (λ k. absurd (among-none k)) (among-cons m)
       where
-        begun : Has (eof (n g)) t → AtItem [] 0 t
+        begun : Has (eof (n g)) t → AtItem g [] 0 t
         begun k = record { left = S; α = []; item = rw (has-eof (n g) t .0 k) (begin (rule-of-left-side g 0 first-is-left-side)) }
 
     kernel-sound : (γ : List Symbol) → SoundState γ (kernelAt g γ)
@@ -312,7 +230,7 @@ module _ (l : Limits) (g : Grammar) (checked : Checked l g) where
     kernel-sound [] = start-sound
     kernel-sound (x ∷ γ) = moved-sound γ x (set-sound γ (kernel-sound γ))
 
-    pub items-sound : (γ : List Symbol) (e : Entry) → Among e (itemSet g γ) → (t : ℕ) → Has (e .set) t → AtItem γ (e .item) t
+    pub items-sound : (γ : List Symbol) (e : Entry) → Among e (itemSet g γ) → (t : ℕ) → Has (e .set) t → AtItem g γ (e .item) t
     items-sound γ = set-sound γ (kernel-sound γ)
 
     -- ---- so it is decided what a stack awaits and where it reduces
@@ -322,7 +240,7 @@ module _ (l : Limits) (g : Grammar) (checked : Checked l g) where
         by-test : (b : Bool) → someOf (λ e. isBefore g x (e .item)) (itemSet g γ) ≡ b → Dec (Awaits (Rule g) S (n g) γ x)
         by-test true e =
             let (f, m, before) = some-true (λ (e : Entry). isBefore g x (e .item)) (itemSet g γ) e in
-            let (t, h) = some-token (f .set) (set-good g γ (kernel-good g γ) f m .1) in
+            let (t, h) = some-token (f .set) (items-good g γ f m .1) in
             let i = items-sound γ f m t h in
             yes (record {
               production = at g (f .item) .production;
