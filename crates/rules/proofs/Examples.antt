@@ -9,6 +9,7 @@ use Rattle.rules.specs.States.{State, Outcome, done, refused, lr0States}
 use Rattle.rules.specs.Build.{BuildResult, build}
 use Rattle.rules.specs.Drive.{DriveResult, drive}
 use Rattle.rules.specs.Table.{tableBytes}
+use Rattle.rules.specs.Text.{text, fileText}
 use Rattle.rules.specs.Answers.{Said, built, refused as refusedWith, accepted, stopped, driveSaid}
 use Rattle.rules.proofs.Coding.{_⟶_, N, a, b, c, d, e, coded, said, table, s, g, r}
 
@@ -46,6 +47,11 @@ example1-table = (refl, refl)
 example1-work : (built1 0 .work ≡ replicate 8192 0 ++ replicate 2 9) × (built1 1 .work ≡ replicate 8192 0 ++ replicate 2 9)
 unfolding built1
 example1-work = (refl, refl)
+
+-- what the file program prints
+example1-text : fileText example1 ≡ text "built 3 states 4 records\n0 s 0 2\n0 g 1 1\n1 r 1 0\n2 r 1 1\n"
+unfolding fileText example1 text
+example1-text = refl
 
 -- ---- 2 to 5. Its driver
 unfoldable pub driven1 : List ℕ → ℕ → ℕ → ℕ → DriveResult

@@ -1,5 +1,6 @@
 -- Document 01's number and place for every answer, with the counts that come beside it.
 use Prim.Native.Nat.{ℕ}
+use mathlib.Core.Path.{_≡_}
 use Rattle.rules.specs.declared.GrammarRefusal.{GrammarRefusal}
 use Rattle.rules.specs.declared.GrammarRefusal.the-variants.{Length, BadRecord, OutOfSequence, StartAgain, NoProduction, NoString}
 use Rattle.rules.specs.declared.GrammarAnswer.{GrammarAnswer}
@@ -50,6 +51,10 @@ buildRefusalSaid (Actions state) = refused 11 (state .0)
 buildRefusalSaid (Conflicts count) = refused 12 count
 buildRefusalSaid (FinalCheck state) = refused 13 (state .0)
 buildRefusalSaid (TableRoom wanted) = refused 14 wanted
+
+-- "given room": neither 9 nor 10 is met
+abbrev pub GivenRoom : BuildAnswer → Type 0
+GivenRoom answer = (answer ≡ NotBuilt States → ⊥) × (answer ≡ NotBuilt Items → ⊥)
 
 unfoldable pub buildSaid : BuildAnswer → Said
 unfolding buildRefusalSaid

@@ -12,4 +12,5 @@ pub mod Rooms
 pub mod Run
 pub mod States
 pub mod Table
+pub mod Text
 pub mod Tokens
