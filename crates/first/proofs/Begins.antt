@@ -30,7 +30,7 @@ module _ (n : ℕ) (sets : Sets) (xs : List Symbol) where
   unfolding mayBeEmpty beginning
   first1-begun l e = first1-tests l ∙ rw e (sym (without-none (first0 n sets xs) n e))
 
-  module _ (slot : ℕ) (w : List ℕ) (fits : 8192 ≤ length w) (low : slot < 4224) (p : Room) where
+  module _ (slot : ℕ) (w : List ℕ) (fits : 8192 ≤ length w) (low : slot < 4225) (p : Room) where
     there : (s : TokenSet) → p ≡ putSet slot s (view w) → setAt p slot ≡ s
     there s put = let sized = view-lengths w fits in put-there (view w) p slot s put (omega arith)
 

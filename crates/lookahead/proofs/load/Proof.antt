@@ -1,8 +1,8 @@
--- `lookahead::words::load` meets its contract.
+-- `lookahead::load` meets its contract.
 use borrow.Author.Needs.{needs}
 use Rattle.lookahead.specs.Sets.{loadSet}
-use Rattle.lookahead.proofs.words.load.Statement.{statement}
-use Rattle.lookahead.proofs.words.load.Tie as tie
+use Rattle.lookahead.proofs.load.Statement.{statement}
+use Rattle.lookahead.proofs.load.Tie as tie
 
 returns : tie.Need-returns
 unfolding loadSet

@@ -1,8 +1,8 @@
--- `lookahead::words::store` meets its contract.
+-- `lookahead::store` meets its contract.
 use borrow.Author.Needs.{needs}
 use Rattle.lookahead.specs.Sets.{storeSet}
-use Rattle.lookahead.proofs.words.store.Statement.{statement}
-use Rattle.lookahead.proofs.words.store.Tie as tie
+use Rattle.lookahead.proofs.store.Statement.{statement}
+use Rattle.lookahead.proofs.store.Tie as tie
 
 returns : tie.Need-returns
 unfolding storeSet
