@@ -1,4 +1,4 @@
-// A set as one word: bit t is number t.
+// A set as one word: bit t is number t. Sets in several words are defined in specs/Bits.antt.
 ghost use mathlib.Core.Path.{_≡_};
 ghost use Prim.Native.Nat.{_+_};
 ghost use Rattle.rules.specs.Tokens.{has, single, join, disjoint, within, without, all};
