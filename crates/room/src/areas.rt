@@ -29,7 +29,7 @@ const ACTIONS: usize = 3843;
 const SETS: usize = 3859;
 
 // How many words a state has where it has several.
-const VISITED_WORDS: usize = 8;
+pub const VISITED_WORDS: usize = 8;
 
 const SUCCESSOR_WORDS: usize = 2;
 
