@@ -1,4 +1,5 @@
 pub mod Apart
+pub mod Bounds
 pub mod Cells
 pub mod Clearing
 pub mod Lengths

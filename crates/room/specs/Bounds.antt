@@ -1,5 +1,5 @@
--- The limits of the work room's numbers, by name, and what the functions over the room ask of a number. 128 states, 2,048 entries, 16
--- columns, 64 nonterminals, 62 terminals and 8,192 numbers of the room are values of `limits`.
+-- The bounds of the work room's numbers, by name, and what the functions over the room ask of a number. Each is the expression that it
+-- abbreviates, wherever it stands.
 use Prim.Native.Nat.{ℕ, _≤_, _<_}
 use mathlib.Core.List.{List}
 use lib.ListN.{length}
@@ -50,9 +50,12 @@ maxNonterminals = 64
 abbrev pub IsNonterminal : ℕ → Type 0
 IsNonterminal a = a < maxNonterminals
 
+abbrev pub maxTerminals : ℕ
+maxTerminals = 62
+
 -- how many terminals a grammar has
 abbrev pub FewTerminals : ℕ → Type 0
-FewTerminals n = n ≤ 62
+FewTerminals n = n ≤ maxTerminals
 
 -- ---- words of bits: those of the items visited in a state, of a state's successors, and of the states walked
 abbrev pub visitedWords : ℕ
