@@ -73,7 +73,3 @@ slotCount = 4225
 
 abbrev pub IsSlot : ℕ → Type 0
 IsSlot slot = slot < slotCount
-
--- ---- one of the numbers that are packed into a number of the room
-abbrev pub IsPart : ℕ → Type 0
-IsPart part = part < 65536

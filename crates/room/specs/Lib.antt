@@ -1,4 +1,3 @@
 pub mod Areas
 pub mod Bounds
-pub mod Packed
 pub mod Slots

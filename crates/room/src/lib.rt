@@ -1,11 +1,10 @@
-// The work room: its areas, the slots of its token sets, what its numbers pack, and clearing it.
+// The work room: its areas, the slots of its token sets, and clearing it.
 ghost use mathlib.Core.Path.{_≡_};
 ghost use Rattle.rules.specs.Limits.{limits};
 ghost use Rattle.rules.specs.Rooms.{cleared};
 ghost use Rattle.room.specs.Bounds.{LongEnough};
 
 pub mod areas;
-pub mod packed;
 pub mod slots;
 
 // The numbers of the room that the builder takes.

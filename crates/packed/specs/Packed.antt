@@ -1,7 +1,11 @@
 -- Three numbers in one number of the room. An entry is its item and its next state; a state's parent is the state, the number and the kind
 -- of the symbol that lead to it.
-use Prim.Native.Nat.{ℕ, _+_, _*_, _/_, _%_}
+use Prim.Native.Nat.{ℕ, _+_, _*_, _/_, _%_, _<_}
 use Rattle.rules.specs.declared.StateIndex.{StateIndex}
+
+-- a number that can be one of the three
+abbrev pub IsPart : ℕ → Type 0
+IsPart part = part < 65536
 
 unfoldable pub packed : ℕ → ℕ → ℕ → ℕ
 packed low middle high = low + 65536 * middle + 4294967296 * high

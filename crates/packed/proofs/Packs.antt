@@ -2,8 +2,7 @@
 use Prim.Native.Nat.{ℕ}
 use mathlib.Core.Path.{_≡_}
 use native.Mathlib.Omega.{arith}
-use Rattle.room.specs.Bounds.{IsPart}
-use Rattle.room.specs.Packed.{packed, low, middle, high}
+use Rattle.packed.specs.Packed.{IsPart, packed, low, middle, high}
 
 module _ (a b c : ℕ) (l : IsPart a) (m : IsPart b) where
   pub low-packed : low (packed a b c) ≡ a

@@ -1,8 +1,8 @@
--- `room::packed::pack` meets its contract.
+-- `packed::pack` meets its contract.
 use borrow.Author.Needs.{needs}
-use Rattle.room.specs.Packed.{packed}
-use Rattle.room.proofs.packed.pack.Statement.{statement}
-use Rattle.room.proofs.packed.pack.Tie as tie
+use Rattle.packed.specs.Packed.{packed}
+use Rattle.packed.proofs.pack.Statement.{statement}
+use Rattle.packed.proofs.pack.Tie as tie
 
 returns : tie.Need-returns
 unfolding packed

@@ -1,7 +1,6 @@
 // Entries and parents as single numbers of the room: put together by `+ *`, taken apart by `/ %`.
 ghost use mathlib.Core.Path.{_≡_};
-ghost use Rattle.room.specs.Bounds.{IsPart};
-ghost use Rattle.room.specs.Packed.{packed, low, middle, high, entryOf, parentOf};
+ghost use Rattle.packed.specs.Packed.{IsPart, packed, low, middle, high, entryOf, parentOf};
 use rules::StateIndex;
 
 fn pack(a: usize, b: usize, c: usize) -> u64
