@@ -13,7 +13,7 @@ use room::areas::put_origin;
 use rules::StateIndex;
 use words::WORD_BITS;
 
-// A word of the states that link to the state.
+// A word of the states that link to the state `to`.
 fn link_word(work: &[u64], to: StateIndex, word: usize) -> u64
     requires { ⌜ LongEnough (now work) × IsState to ⌝ }
     ensures { λ r. ⌜ r ≡ linkWord (view (now (work .entry))) (to .0) word ⌝ }
@@ -24,7 +24,7 @@ fn link_word(work: &[u64], to: StateIndex, word: usize) -> u64
     get_head(work, to)
 }
 
-// v becomes a word of the states that link to the state.
+// v becomes a word of the states that link to the state `to`.
 fn put_link_word(work: &mut [u64], to: StateIndex, word: usize, v: u64)
     requires { ⌜ LongEnough (now work) × IsState to ⌝ }
     ensures { λ _. ⌜ view (now (work .exit)) ≡ putLinkWord (to .0) word v (view (now (work .entry))) ⌝ }
@@ -36,7 +36,7 @@ fn put_link_word(work: &mut [u64], to: StateIndex, word: usize, v: u64)
     put_head(work, to, v);
 }
 
-// The one state links to the other.
+// The state `from` links to the state `to`.
 pub fn links(work: &[u64], from: StateIndex, to: StateIndex) -> bool
     requires { ⌜ LongEnough (now work) × IsState from × IsState to ⌝ }
     ensures { λ r. ⌜ r ≡ has (linksIn (view (now (work .entry))) (to .0)) (from .0) ⌝ }
@@ -45,7 +45,7 @@ pub fn links(work: &[u64], from: StateIndex, to: StateIndex) -> bool
     has_bit(word, from.0)
 }
 
-// The one state is said to link to the other.
+// The state `from` is entered among those that link to the state `to`.
 pub fn link(work: &mut [u64], from: StateIndex, to: StateIndex)
     requires { ⌜ LongEnough (now work) × IsState from × IsState to ⌝ }
     ensures { λ _. ⌜ view (now (work .exit)) ≡ linkAdded (from .0) (to .0) (view (now (work .entry))) ⌝ }
@@ -56,7 +56,7 @@ pub fn link(work: &mut [u64], from: StateIndex, to: StateIndex)
     put_link_word(work, to, at, more);
 }
 
-// No state links to the state.
+// No state is among those that link to the state `to`.
 pub fn clear_links(work: &mut [u64], to: StateIndex)
     requires { ⌜ LongEnough (now work) × IsState to ⌝ }
     ensures { λ _. ⌜ view (now (work .exit)) ≡ linksCleared (to .0) (view (now (work .entry))) ⌝ }

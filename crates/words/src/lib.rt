@@ -15,7 +15,7 @@ pub fn single_word(t: usize) -> u64
     1u64 << t
 }
 
-// The n numbers below n, and n.
+// n and every number below it.
 pub fn all_word(n: usize) -> u64
     requires { ⌜ IsBit (n + 1) ⌝ }
     ensures { λ r. ⌜ r ≡ all n ⌝ }
