@@ -1,16 +1,16 @@
 -- What stands behind a dot, with its mark taken, and with a lookahead behind it.
-use Prim.Native.Nat.{ℕ, _≤_, _<_}
+use Prim.Native.Nat.{ℕ}
 use mathlib.Core.Path.{_≡_, sym, ap, _∙_}
 use mathlib.Core.Bool.{Bool, true, false, not}
 use mathlib.Core.List.{List}
 use native.Mathlib.Omega.{arith}
-use lib.ListN.{length}
 use borrow.Author.Tests.{not-true, not-false}
 use Rattle.base.specs.Pick.{pick}
 use Rattle.rules.specs.Tokens.{TokenSet, has, join, without}
 use Rattle.rules.specs.Grammar.{Symbol}
 use Rattle.rules.specs.First.{Sets, first0, beginning, mayBeEmpty, first1}
 use Rattle.room.specs.Areas.{Room, view}
+use Rattle.room.specs.Bounds.{LongEnough, IsSlot}
 use Rattle.room.proofs.Lengths.{view-lengths}
 use Rattle.lookahead.specs.Sets.{setAt, putSet}
 use Rattle.lookahead.proofs.Slots.{put-there, put-elsewhere, put-again}
@@ -30,7 +30,7 @@ module _ (n : ℕ) (sets : Sets) (xs : List Symbol) where
   unfolding first1
   first1-begun l e = ap (λ (empty : Bool). pick empty (join (beginning n sets xs) l) (first0 n sets xs)) e ∙ unmarked e
 
-  module _ (slot : ℕ) (w : List ℕ) (fits : 8192 ≤ length w) (low : slot < 4224) (p : Room) where
+  module _ (slot : ℕ) (w : List ℕ) (fits : LongEnough w) (low : IsSlot slot) (p : Room) where
     there : (s : TokenSet) → p ≡ putSet slot s (view w) → setAt p slot ≡ s
     there s put = let sized = view-lengths w fits in put-there (view w) p slot s put (omega arith)
 

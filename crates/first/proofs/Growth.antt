@@ -16,6 +16,7 @@ use Rattle.rules.specs.Records.{Grammar, at}
 use Rattle.rules.specs.Tokens.{join}
 use Rattle.rules.specs.Grammar.{atStart, leftSides, symbolsBehind, terminalCount, nonterminalCount}
 use Rattle.rules.specs.First.{Sets, setOf, first0, addFirst, firstSettled, firstSets}
+use Rattle.room.specs.Bounds.{maxNonterminals, FewTerminals}
 use Rattle.sets.proofs.Laws.{join-within}
 use Rattle.grammar.proofs.Laws.{left-sides}
 use Rattle.first.specs.Firsts.{hasFirst}
@@ -113,7 +114,7 @@ pub rounds-start : (g : Grammar) (n m : ℕ) (sets : Sets) → n ≡ terminalCou
     → until (firstSettled g n) (foldOver (addFirst g n) (leftSides g)) (m * (n + 1) - 0) sets ≡ firstSets g
 rounds-start g n m sets en em es = rw (sub-zero, es, en, em) (sym (firsts-are g))
 
-pub rounds-fit : (m n : ℕ) → m ≤ 64 → n ≤ 62 → m * (n + 1) ≤ 4032
+pub rounds-fit : (m n : ℕ) → m ≤ maxNonterminals → FewTerminals n → m * (n + 1) ≤ 4032
 rounds-fit m n h l =
     let k : n + 1 ≤ 63 = omega arith in
     let p : m * (n + 1) ≤ 64 * 63 = mul-le-mul h k in

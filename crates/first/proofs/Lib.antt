@@ -1,5 +1,5 @@
 pub mod Begins
+pub mod Collects
 pub mod Frames
 pub mod Growth
 pub mod Loads
-pub mod Walks

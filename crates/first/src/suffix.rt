@@ -1,14 +1,10 @@
 // FIRST of what stands behind a dot: first/mod.rs, first0 and first1. The sets of the nonterminals lie in their slots.
 ghost use mathlib.Core.Path.{_≡_};
-ghost use Prim.Native.Nat.{_+_, _*_, _≤_, _<_};
-ghost use lib.ListN.{length};
-ghost use Rattle.rules.specs.Limits.{limits};
-ghost use Rattle.rules.specs.Records.{at, records};
-ghost use Rattle.rules.specs.Grammar.{symbolOf, symbolsBehind, firstFault};
-ghost use Rattle.rules.specs.First.{first0, beginning, mayBeEmpty, first1};
 ghost use Rattle.room.specs.Areas.{view};
-ghost use Rattle.lookahead.specs.Sets.{setAt, putSet};
-ghost use Rattle.first.specs.Firsts.{firstsIn, joinSymbol, goesOn};
+ghost use Rattle.room.specs.Bounds.{LongEnough, IsSlot, FewTerminals};
+ghost use Rattle.lookahead.specs.Sets.{setAt};
+ghost use Rattle.first.specs.Asked.{InRange, Faultless, NotFirst};
+ghost use Rattle.first.specs.Rooms.{symbolJoined, symbolGoesOn, first0Put, beginningPut, behindMayBeEmpty, first1Put};
 use grammar::items::at_start;
 use grammar::records::is_terminal;
 use grammar::records::record_count;
@@ -21,10 +17,10 @@ use room::slots::first_slot;
 
 // What can begin the symbol of record k is joined into the slot; says whether the symbols behind it count too.
 fn join_symbol(g: &[u8], n: usize, k: usize, work: &mut [u64], slot: usize) -> bool
-    requires { ⌜ (8 * k + 8 ≤ length (now g)) × (firstFault limits (records (now g)) ≡ length (records (now g))) × (n ≤ 62) ⌝ }
-    requires { ⌜ (8192 ≤ length (now work)) × (64 ≤ slot) × (slot < 4224) ⌝ }
-    ensures { λ _. ⌜ view (now (work .exit)) ≡ putSet slot (joinSymbol n (firstsIn (records (now (g .entry))) (view (now (work .entry)))) (setAt (view (now (work .entry))) slot) (symbolOf (at (records (now (g .entry))) k))) (view (now (work .entry))) ⌝ }
-    ensures { λ r. ⌜ r ≡ goesOn n (firstsIn (records (now (g .entry))) (view (now (work .entry)))) (setAt (view (now (work .entry))) slot) (symbolOf (at (records (now (g .entry))) k)) ⌝ }
+    requires { ⌜ InRange k (now g) × Faultless (now g) × FewTerminals n ⌝ }
+    requires { ⌜ LongEnough (now work) × NotFirst slot × IsSlot slot ⌝ }
+    ensures { λ _. ⌜ view (now (work .exit)) ≡ symbolJoined (now (g .entry)) n k slot (view (now (work .entry))) ⌝ }
+    ensures { λ r. ⌜ r ≡ symbolGoesOn (now (g .entry)) n k slot (view (now (work .entry))) ⌝ }
 {
     let a = symbol(g, k);
     if is_terminal(g, k) {
@@ -37,10 +33,10 @@ fn join_symbol(g: &[u8], n: usize, k: usize, work: &mut [u64], slot: usize) -> b
 }
 
 // FIRST of what stands behind the dot of item i, Eof as a mark if it derives the empty string, into a slot that is empty.
-fn walk(g: &[u8], n: usize, i: usize, work: &mut [u64], slot: usize)
-    requires { ⌜ (8 * i + 8 ≤ length (now g)) × (firstFault limits (records (now g)) ≡ length (records (now g))) × (n ≤ 62) ⌝ }
-    requires { ⌜ (8192 ≤ length (now work)) × (64 ≤ slot) × (slot < 4224) × (setAt (view (now work)) slot ≡ 0) ⌝ }
-    ensures { λ _. ⌜ view (now (work .exit)) ≡ putSet slot (first0 n (firstsIn (records (now (g .entry))) (view (now (work .entry)))) (symbolsBehind (records (now (g .entry))) i)) (view (now (work .entry))) ⌝ }
+fn collect(g: &[u8], n: usize, i: usize, work: &mut [u64], slot: usize)
+    requires { ⌜ InRange i (now g) × Faultless (now g) × FewTerminals n ⌝ }
+    requires { ⌜ LongEnough (now work) × NotFirst slot × IsSlot slot × (setAt (view (now work)) slot ≡ 0) ⌝ }
+    ensures { λ _. ⌜ view (now (work .exit)) ≡ first0Put (now (g .entry)) n i slot (view (now (work .entry))) ⌝ }
 {
     let count = record_count(g);
     for k in i + 1..count {
@@ -57,21 +53,21 @@ fn walk(g: &[u8], n: usize, i: usize, work: &mut [u64], slot: usize)
 
 // FIRST of what stands behind the dot of item i, Eof as a mark if it derives the empty string, into the slot. first/mod.rs: first0
 pub fn first0(g: &[u8], n: usize, i: usize, work: &mut [u64], slot: usize)
-    requires { ⌜ (8 * i + 8 ≤ length (now g)) × (firstFault limits (records (now g)) ≡ length (records (now g))) × (n ≤ 62) ⌝ }
-    requires { ⌜ (8192 ≤ length (now work)) × (64 ≤ slot) × (slot < 4224) ⌝ }
-    ensures { λ _. ⌜ view (now (work .exit)) ≡ putSet slot (first0 n (firstsIn (records (now (g .entry))) (view (now (work .entry)))) (symbolsBehind (records (now (g .entry))) i)) (view (now (work .entry))) ⌝ }
+    requires { ⌜ InRange i (now g) × Faultless (now g) × FewTerminals n ⌝ }
+    requires { ⌜ LongEnough (now work) × NotFirst slot × IsSlot slot ⌝ }
+    ensures { λ _. ⌜ view (now (work .exit)) ≡ first0Put (now (g .entry)) n i slot (view (now (work .entry))) ⌝ }
 {
     clear_set(work, slot);
-    walk(g, n, i, work, slot);
+    collect(g, n, i, work, slot);
 }
 
 // The terminals that can begin what stands behind the dot of item i, into the slot; says whether it derives the empty string.
 // first/mod.rs: first0, its mark taken
 pub fn begin(g: &[u8], n: usize, i: usize, work: &mut [u64], slot: usize) -> bool
-    requires { ⌜ (8 * i + 8 ≤ length (now g)) × (firstFault limits (records (now g)) ≡ length (records (now g))) × (n ≤ 62) ⌝ }
-    requires { ⌜ (8192 ≤ length (now work)) × (64 ≤ slot) × (slot < 4224) ⌝ }
-    ensures { λ _. ⌜ view (now (work .exit)) ≡ putSet slot (beginning n (firstsIn (records (now (g .entry))) (view (now (work .entry)))) (symbolsBehind (records (now (g .entry))) i)) (view (now (work .entry))) ⌝ }
-    ensures { λ r. ⌜ r ≡ mayBeEmpty n (firstsIn (records (now (g .entry))) (view (now (work .entry)))) (symbolsBehind (records (now (g .entry))) i) ⌝ }
+    requires { ⌜ InRange i (now g) × Faultless (now g) × FewTerminals n ⌝ }
+    requires { ⌜ LongEnough (now work) × NotFirst slot × IsSlot slot ⌝ }
+    ensures { λ _. ⌜ view (now (work .exit)) ≡ beginningPut (now (g .entry)) n i slot (view (now (work .entry))) ⌝ }
+    ensures { λ r. ⌜ r ≡ behindMayBeEmpty (now (g .entry)) n i (view (now (work .entry))) ⌝ }
 {
     first0(g, n, i, work, slot);
     take(work, slot, n)
@@ -80,9 +76,9 @@ pub fn begin(g: &[u8], n: usize, i: usize, work: &mut [u64], slot: usize) -> boo
 // FIRST of what stands behind the dot of item i and of the lookahead behind that, into the slot. The lookahead lies in another slot.
 // first/mod.rs: first1
 pub fn first1(g: &[u8], n: usize, i: usize, work: &mut [u64], slot: usize, ahead: usize)
-    requires { ⌜ (8 * i + 8 ≤ length (now g)) × (firstFault limits (records (now g)) ≡ length (records (now g))) × (n ≤ 62) ⌝ }
-    requires { ⌜ (8192 ≤ length (now work)) × (64 ≤ slot) × (slot < 4224) × (ahead < 4224) × (ahead ≡ slot → ⊥) ⌝ }
-    ensures { λ _. ⌜ view (now (work .exit)) ≡ putSet slot (first1 n (firstsIn (records (now (g .entry))) (view (now (work .entry)))) (symbolsBehind (records (now (g .entry))) i) (setAt (view (now (work .entry))) ahead)) (view (now (work .entry))) ⌝ }
+    requires { ⌜ InRange i (now g) × Faultless (now g) × FewTerminals n ⌝ }
+    requires { ⌜ LongEnough (now work) × NotFirst slot × IsSlot slot × IsSlot ahead × (ahead ≡ slot → ⊥) ⌝ }
+    ensures { λ _. ⌜ view (now (work .exit)) ≡ first1Put (now (g .entry)) n i slot ahead (view (now (work .entry))) ⌝ }
 {
     if !begin(g, n, i, work, slot) {
         return;

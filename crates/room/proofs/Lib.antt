@@ -1,8 +1,8 @@
 pub mod Apart
+pub mod Bounds
 pub mod Cells
 pub mod Clearing
 pub mod Lengths
-pub mod Packs
 pub mod Same
 pub mod Views
 pub mod Whole

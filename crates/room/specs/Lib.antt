@@ -1,3 +1,3 @@
 pub mod Areas
-pub mod Packed
+pub mod Bounds
 pub mod Slots

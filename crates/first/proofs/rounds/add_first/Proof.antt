@@ -1,7 +1,7 @@
 -- `first::rounds::add_first` meets its contract.
 use borrow.Author.Needs.{needs}
 use Rattle.grammar.proofs.Coded.{symbol-read}
-use Rattle.first.proofs.Walks.{first-slot-low}
+use Rattle.first.proofs.Collects.{first-slot-low}
 use Rattle.first.proofs.Frames.{first-added, only-added, first-new}
 use Rattle.first.proofs.rounds.add_first.Statement.{statement}
 use Rattle.first.proofs.rounds.add_first.Tie as tie

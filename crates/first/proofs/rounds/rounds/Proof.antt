@@ -28,7 +28,7 @@ abbrev μ-loop : tie.MeasureT-loop
 mul-bound : tie.Need-mul-bound Inv-loop μ-loop
 mul-bound c =
     let start = c .before .before in
-    omega (arith, rounds-fit (start .args .m) (start .args .n) (start .pre .0 .3) (start .pre .0 .1))
+    omega (arith, rounds-fit (start .args .m) (start .args .n) (start .pre .0 .1 .few-nonterminals) (start .pre .0 .1 .few-terminals))
 
 pub rounds-spec : {M : Type 1} → statement M
 rounds-spec =

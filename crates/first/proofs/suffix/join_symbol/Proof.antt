@@ -1,7 +1,7 @@
 -- `first::suffix::join_symbol` meets its contract.
 use borrow.Author.Needs.{needs}
 use Rattle.grammar.proofs.Coded.{symbol-read}
-use Rattle.first.proofs.Walks.{first-slot-low, terminal-joined, terminal-stops, nonterminal-joined, nonterminal-goes}
+use Rattle.first.proofs.Collects.{first-slot-low, terminal-joined, terminal-stops, nonterminal-joined, nonterminal-goes}
 use Rattle.first.proofs.suffix.join_symbol.Statement.{statement}
 use Rattle.first.proofs.suffix.join_symbol.Tie as tie
 
