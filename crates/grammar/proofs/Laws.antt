@@ -13,6 +13,7 @@ use Rattle.base.proofs.ListLoops.{kept, kept-start, greatest-turn}
 use Rattle.rules.proofs.Laws.{length-records, record-past, not-at-end-within}
 use Rattle.rules.specs.Records.{Record, Grammar, recordAt, recordsOf, records, past, at, isTerminal}
 use Rattle.rules.specs.Grammar.{Symbol, nonterminal, terminal, atEnd, atStart, isBefore, leftOf, leftSideOf, leftSides, productionCount, terminalCount, nonterminalCount}
+use Rattle.grammar.specs.Asked.{InRange}
 use Rattle.grammar.specs.Tests.{countNamed, highestNamed}
 
 -- ---- records
@@ -28,7 +29,7 @@ recordsOf-at (suc k) (suc i) bytes h =
     let e : 8 + 8 * i ≡ 8 * suc i = omega arith in
     recordsOf-at k i (drop 8 bytes) (omega arith) ∙ record-dropped 8 bytes (8 * i) ∙ ap (recordAt bytes) e
 
-pub record-at : (bytes : List ℕ) (i : ℕ) → 8 * i + 8 ≤ length bytes → at (records bytes) i ≡ recordAt bytes (8 * i)
+pub record-at : (bytes : List ℕ) (i : ℕ) → InRange i bytes → at (records bytes) i ≡ recordAt bytes (8 * i)
 unfolding records at
 record-at bytes i h = recordsOf-at (length bytes / 8) i bytes (omega arith)
 
@@ -37,7 +38,7 @@ pub past-end : (g : Grammar) (n i : ℕ) → n ≡ length g → n ≤ i + 1 → 
 unfolding atEnd
 past-end g n i e h = let l : length g ≤ i + 1 = omega arith in rw (record-past g (i + 1) l)
 
-pub behind-dot : (bytes : List ℕ) (i : ℕ) → atEnd (records bytes) i ≡ false → 8 * (i + 1) + 8 ≤ length bytes
+pub behind-dot : (bytes : List ℕ) (i : ℕ) → atEnd (records bytes) i ≡ false → InRange (i + 1) bytes
 behind-dot bytes i f = omega (arith, not-at-end-within (records bytes) i f, length-records bytes)
 
 module _ (g : Grammar) (i : ℕ) (b : Bool) (last : b ≡ atEnd g i) where

@@ -1,11 +1,11 @@
 // The numbers of the grammar: n terminals, m nonterminals, the productions, the start.
 ghost use mathlib.Core.Path.{_≡_};
 ghost use mathlib.Core.Bool.{true, false};
-ghost use Prim.Native.Nat.{_+_, _*_, _≤_, _<_, max};
-ghost use lib.ListN.{length};
+ghost use Prim.Native.Nat.{_+_, _≤_, max};
 ghost use Rattle.base.specs.Pick.{pick};
 ghost use Rattle.rules.specs.Records.{at, records};
 ghost use Rattle.rules.specs.Grammar.{atStart, start, terminalCount, nonterminalCount, productionCount};
+ghost use Rattle.grammar.specs.Asked.{InRange, maxNumber};
 ghost use Rattle.grammar.specs.Tests.{countNamed, highestNamed};
 
 // The greater of two numbers.
@@ -20,8 +20,8 @@ fn larger(a: usize, b: usize) -> usize
 
 // One more than the symbol of record i if it is of the kind asked for, terminals or nonterminals, else 0.
 fn count_named(g: &[u8], terminals: bool, i: usize) -> usize
-    requires { ⌜ 8 * i + 8 ≤ length (now g) ⌝ }
-    ensures { λ r. ⌜ (r ≡ countNamed terminals (at (records (now (g .entry))) i)) × (r ≤ 65536) ⌝ }
+    requires { ⌜ InRange i (now g) ⌝ }
+    ensures { λ r. ⌜ (r ≡ countNamed terminals (at (records (now (g .entry))) i)) × (r ≤ maxNumber + 1) ⌝ }
 {
     if crate::records::is_terminal(g, i) {
         if terminals {
@@ -37,7 +37,7 @@ fn count_named(g: &[u8], terminals: bool, i: usize) -> usize
 
 // One more than the highest symbol named of a kind, terminals or nonterminals; 0 if none is.
 fn highest_named(g: &[u8], terminals: bool) -> usize
-    ensures { λ r. ⌜ (r ≡ highestNamed terminals (records (now (g .entry)))) × (r ≤ 65536) ⌝ }
+    ensures { λ r. ⌜ (r ≡ highestNamed terminals (records (now (g .entry)))) × (r ≤ maxNumber + 1) ⌝ }
 {
     let n = crate::records::record_count(g);
     let mut highest: usize = 0;
@@ -49,29 +49,29 @@ fn highest_named(g: &[u8], terminals: bool) -> usize
 
 // n: one more than the highest terminal named, 0 if none is.
 pub fn terminal_count(g: &[u8]) -> usize
-    ensures { λ r. ⌜ (r ≡ terminalCount (records (now (g .entry)))) × (r ≤ 65536) ⌝ }
+    ensures { λ r. ⌜ (r ≡ terminalCount (records (now (g .entry)))) × (r ≤ maxNumber + 1) ⌝ }
 {
     highest_named(g, true)
 }
 
 // m: one more than the highest nonterminal named, 0 if none is.
 pub fn nonterminal_count(g: &[u8]) -> usize
-    ensures { λ r. ⌜ (r ≡ nonterminalCount (records (now (g .entry)))) × (r ≤ 65536) ⌝ }
+    ensures { λ r. ⌜ (r ≡ nonterminalCount (records (now (g .entry)))) × (r ≤ maxNumber + 1) ⌝ }
 {
     highest_named(g, false)
 }
 
 // The start: the left side of production 0.
 pub fn start(g: &[u8]) -> usize
-    requires { ⌜ 8 ≤ length (now g) ⌝ }
-    ensures { λ r. ⌜ (r ≡ start (records (now (g .entry)))) × (r < 65536) ⌝ }
+    requires { ⌜ InRange 0 (now g) ⌝ }
+    ensures { λ r. ⌜ r ≡ start (records (now (g .entry))) ⌝ }
 {
     crate::records::symbol(g, 0)
 }
 
 // 1 if record i is a left side, else 0.
 fn count_start(g: &[u8], i: usize) -> usize
-    requires { ⌜ 8 * i + 8 ≤ length (now g) ⌝ }
+    requires { ⌜ InRange i (now g) ⌝ }
     ensures { λ r. ⌜ (r ≡ pick (atStart (records (now (g .entry))) i) 1 0) × (r ≤ 1) ⌝ }
 {
     if crate::items::at_start(g, i) {

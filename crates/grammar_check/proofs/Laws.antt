@@ -4,13 +4,12 @@ use mathlib.Core.Path.{_≡_, sym, ap, _∙_}
 use mathlib.Core.List.{[], _∷_}
 use mathlib.Core.Bool.{Bool, true, false, not}
 use native.Mathlib.Omega.{arith}
-use native.Mathlib.Decide.{decLe}
 use lib.ListN.{length, drop, drop-of-length-le}
-use lib.Dec.{leb}
-use borrow.Author.Tests.{not-true, not-false, lt-ltb, le-ltb, le-leb, lt-leb}
+use borrow.Author.Tests.{not-true, not-false, lt-ltb, le-ltb}
 use Rattle.base.specs.Loops.{firstFrom}
 use Rattle.base.specs.Pick.{pick}
 use Rattle.base.specs.Lists.{eachOf, foldOver}
+use Rattle.base.proofs.Turns.{first-at, first-over}
 use Rattle.base.proofs.ListLoops.{first-whole, kept, kept-fold-turn, kept-each-turn, kept-each-fails}
 use Rattle.rules.proofs.Laws.{side-from}
 use Rattle.rules.specs.Records.{Grammar, at}
@@ -19,14 +18,20 @@ use Rattle.rules.specs.Grammar.{Symbol, collect, allCollected, productive, firs
 use Rattle.grammar.proofs.Laws.{left-sides}
 use Rattle.grammar_check.specs.Tests.{lacksProduction, collectAt, isCollected, uncollected, isBarren}
 
--- ---- a nonterminal without production
-pub lacks : (g : Grammar) (a n k : ℕ) → n ≡ length g → k ≡ firstFrom (isLeftSideOf g a) (length g) 0 → leb n k ≡ lacksProduction g a
-unfolding lacksProduction
-lacks g a n k e f =
-    elim (decLe n k) [
-      | yes h ↦ rw (← f, ← e, le-leb n k h, le-ltb k n h)
-      | no h ↦ let l : k < n = omega arith in rw (← f, ← e, lt-leb n k l, lt-ltb k n l)
-    ]
+-- ---- a nonterminal without production; i is the record at hand and n the number of records
+module _ (g : Grammar) (a n i : ℕ) (size : n ≡ length g)
+    (rest : firstFrom (isLeftSideOf g a) (n - i) i ≡ firstFrom (isLeftSideOf g a) (length g) 0) where
+  pub has-production : (b : Bool) → i < n → b ≡ isLeftSideOf g a i → b ≡ true → false ≡ lacksProduction g a
+  unfolding lacksProduction
+  has-production b h p f =
+      let e : i ≡ firstFrom (isLeftSideOf g a) (length g) 0 = first-at (isLeftSideOf g a) n i _ b h rest p f in
+      rw (← e, ← size, lt-ltb i n h)
+
+  pub has-none : i ≤ n → n ≤ i → true ≡ lacksProduction g a
+  unfolding lacksProduction
+  has-none l h =
+      let e : n ≡ firstFrom (isLeftSideOf g a) (length g) 0 = first-over (isLeftSideOf g a) n i _ l h rest in
+      rw (← e, ← size, le-ltb n n (omega arith))
 
 -- ---- the symbols behind a dot, up to the next left side; k is the record at hand and n the number of records
 module _ (g : Grammar) (holds : Symbol → Bool) (k n : ℕ) (t : Bool) (size : n ≡ length g) where

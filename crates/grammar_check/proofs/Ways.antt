@@ -10,6 +10,7 @@ use Rattle.rules.specs.Records.{Record, Grammar, at, isTerminal, badRecord, com
 use Rattle.rules.specs.Tokens.{TokenSet, has}
 use Rattle.rules.specs.Grammar.{atStart, start, namesStart, sideDerives, faultAt}
 use Rattle.rules.specs.declared.GrammarRefusal.the-variants.{BadRecord, OutOfSequence}
+use Rattle.grammar.specs.Asked.{maxTerminals, maxNonterminals, maxProductions, maxSymbols}
 use Rattle.grammar_check.specs.Tests.{terminalLeft, uncollected}
 
 -- ---- refusal 4
@@ -24,11 +25,11 @@ module _ (r : Record) (z : ℕ) (byte : z ≡ r .zeroByte) where
     bad-kind e h = rw (← byte, eq-eqb z 0 e, ← is, lt-ltb 1 k h)
 
     module _ (a : ℕ) (named : a ≡ r .symbol) where
-      pub bad-terminal : z ≡ 0 → k ≤ 1 → k ≡ 1 → leb 62 a ≡ badRecord limits r
+      pub bad-terminal : z ≡ 0 → k ≤ 1 → k ≡ 1 → leb maxTerminals a ≡ badRecord limits r
       unfolding badRecord limits
       bad-terminal e h f = rw (← byte, eq-eqb z 0 e, ← is, le-ltb 1 k h, eq-eqb k 1 f, named)
 
-      pub bad-nonterminal : z ≡ 0 → k ≤ 1 → (k ≡ 1 → ⊥) → leb 64 a ≡ badRecord limits r
+      pub bad-nonterminal : z ≡ 0 → k ≤ 1 → (k ≡ 1 → ⊥) → leb maxNonterminals a ≡ badRecord limits r
       unfolding badRecord limits
       bad-nonterminal e h n = rw (← byte, eq-eqb z 0 e, ← is, le-ltb 1 k h, ne-eqb k 1 n, named)
 
@@ -58,13 +59,13 @@ module _ (g : Grammar) (i : ℕ) (s : Bool) (follows : s ≡ inSequence g i) whe
     out-left e f = rw (← follows, e, ← left, f)
 
     module _ (p : ℕ) (production : p ≡ at g i .production) where
-      pub out-production : not s ≡ false → t ≡ false → 128 ≤ p → true ≡ outOfSequence limits g i
+      pub out-production : not s ≡ false → t ≡ false → maxProductions ≤ p → true ≡ outOfSequence limits g i
       unfolding outOfSequence limits terminalLeft
-      out-production e f h = rw (← follows, e, ← left, f, ← production, le-leb 128 p h)
+      out-production e f h = rw (← follows, e, ← left, f, ← production, le-leb maxProductions p h)
 
-      pub out-position : (x : ℕ) → not s ≡ false → t ≡ false → p < 128 → x ≡ at g i .position → ltb 16 x ≡ outOfSequence limits g i
+      pub out-position : (x : ℕ) → not s ≡ false → t ≡ false → p < maxProductions → x ≡ at g i .position → ltb maxSymbols x ≡ outOfSequence limits g i
       unfolding outOfSequence limits terminalLeft
-      out-position x e f h z = rw (← follows, e, ← left, f, ← production, lt-leb 128 p h, z)
+      out-position x e f h z = rw (← follows, e, ← left, f, ← production, lt-leb maxProductions p h, z)
 
 -- ---- 4 before 5 within a record
 module _ (g : Grammar) (i : ℕ) (b : Bool) (bad : b ≡ badRecord limits (at g i)) where

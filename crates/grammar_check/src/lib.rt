@@ -6,15 +6,15 @@ mod productive;
 use rules::GrammarAnswer;
 use rules::GrammarRefusal;
 ghost use mathlib.Core.Path.{_≡_};
-ghost use lib.ListN.{length};
 ghost use Rattle.rules.specs.Limits.{limits};
 ghost use Rattle.rules.specs.Records.{records};
-ghost use Rattle.rules.specs.Grammar.{firstFault, grammarAnswer};
+ghost use Rattle.rules.specs.Grammar.{grammarAnswer};
+ghost use Rattle.grammar.specs.Asked.{Faultless};
 ghost use Rattle.grammar_check.specs.Tests.{answerFromSix};
 
 // Refusals 6 to 8, in that order, of bytes that meet none of 3 to 5.
 fn check_symbols(g: &[u8]) -> GrammarAnswer
-    requires { ⌜ firstFault limits (records (now g)) ≡ length (records (now g)) ⌝ }
+    requires { ⌜ Faultless (now g) ⌝ }
     ensures { λ r. ⌜ r ≡ answerFromSix (records (now (g .entry))) ⌝ }
 {
     let again = naming::first_start(g);

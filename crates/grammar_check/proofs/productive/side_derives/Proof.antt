@@ -1,13 +1,11 @@
 -- `grammar_check::productive::side_derives` meets its contract. The loop's invariant: what is left to test gives the same answer. The measure is what is left of the records.
 use Prim.Native.Nat.{_≤_, _-_}
 use mathlib.Core.Path.{_≡_}
-use native.Mathlib.Omega.{arith}
 use lib.ListN.{drop}
 use borrow.Author.Needs.{needs}
 use Rattle.base.specs.Lists.{eachOf}
 use Rattle.rules.specs.Grammar.{sideOf, symbolDerives, sideDerives}
 use Rattle.rules.specs.Records.{records}
-use Rattle.grammar.proofs.Coded.{symbol-within}
 use Rattle.grammar_check.proofs.Laws.{side-turn, side-fails, side-ends, side-over}
 use Rattle.grammar_check.proofs.productive.side_derives.Statement.{statement}
 use Rattle.grammar_check.proofs.productive.side_derives.Tie as tie
@@ -33,7 +31,7 @@ side-derives-spec =
     loop-holds
     (λ c κs. search needs)
     (λ c. search (needs, side-ends))
-    (λ c κs. (search needs, symbol-within _ _ (search needs) (omega arith)))
+    (λ c κs. search needs)
     (λ c. search (needs, side-fails))
     (λ c. search needs)
     (λ c. search needs)

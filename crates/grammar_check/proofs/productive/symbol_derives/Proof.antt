@@ -1,6 +1,7 @@
 -- `grammar_check::productive::symbol_derives` meets its contract.
 use borrow.Author.Needs.{needs}
 use Rattle.rules.specs.Grammar.{symbolOf, symbolDerives}
+use Rattle.grammar.proofs.Coded.{symbol-read}
 use Rattle.grammar_check.proofs.productive.symbol_derives.Statement.{statement}
 use Rattle.grammar_check.proofs.productive.symbol_derives.Tie as tie
 
@@ -14,4 +15,4 @@ returns-2 c = rw (← c .before .before .before .is-terminal .ensures, c .before
 
 pub symbol-derives-spec : {M : Type 1} → statement M
 symbol-derives-spec =
-    tie.close (tie.spec (λ c κs. search needs) returns (λ c κs. search needs) (λ c κs. search needs) returns-2)
+    tie.close (tie.spec (λ c κs. search needs) returns (λ c κs. search needs) (λ c κs. search (needs, symbol-read)) returns-2)
