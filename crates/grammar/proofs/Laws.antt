@@ -5,14 +5,14 @@ use mathlib.Core.List.{List, map}
 use mathlib.Core.Bool.{Bool, true, false}
 use native.Mathlib.Omega.{arith}
 use native.Mathlib.Nat.{add-assoc}
-use lib.ListN.{length, getD, drop}
+use lib.ListN.{length, getD, drop, drop-of-length-le}
 use lib.Seq.{getD-drop}
 use lib.Dec.{eqb}
 use Rattle.base.specs.Lists.{greatest}
 use Rattle.base.proofs.ListLoops.{kept, kept-start, greatest-turn}
-use Rattle.rules.proofs.Laws.{length-records, record-past, not-at-end-within}
-use Rattle.rules.specs.Records.{Record, Grammar, recordAt, recordsOf, records, past, at, isTerminal}
-use Rattle.rules.specs.Grammar.{Symbol, nonterminal, terminal, atEnd, atStart, isBefore, leftOf, leftSideOf, leftSides, productionCount, terminalCount, nonterminalCount}
+use Rattle.rules.proofs.Laws.{length-records, record-past, not-at-end-within, side-from}
+use Rattle.rules.specs.Records.{Record, Grammar, recordAt, recordsOf, records, past, at, isTerminal, isLeftSide}
+use Rattle.rules.specs.Grammar.{Symbol, nonterminal, terminal, sideOf, atEnd, atStart, isBefore, leftSides, productionCount, terminalCount, nonterminalCount}
 use Rattle.grammar.specs.Asked.{InRange}
 use Rattle.grammar.specs.Tests.{countNamed, highestNamed}
 
@@ -66,14 +66,28 @@ module _ (g : Grammar) (i : ℕ) (b : Bool) (last : b ≡ atEnd g i) where
     unfolding isBefore
     before-that-terminal a s e f h = rw (← last, e, ← behind, f, h)
 
-module _ (g : Grammar) (i p k : ℕ) where
-  pub left-found : (a : ℕ) → p ≡ at g i .production → k ≡ leftSideOf g p → a ≡ at g k .symbol → a ≡ leftOf g i
-  unfolding leftOf
-  left-found a e f h = h ∙ rw (f, e)
+-- ---- how many symbols stand behind a dot: `count` so far, up to record k
+module _ (g : Grammar) (k count t : ℕ) (rest : count + length (sideOf (drop k g)) ≡ t) where
+  pub behind-turn : (b : Bool) → b ≡ atStart g k → b ≡ false → count + 1 + length (sideOf (drop (k + 1) g)) ≡ t
+  unfolding atStart
+  behind-turn b e f =
+      let s : isLeftSide (at g k) ≡ false = sym e ∙ f in
+      let l : length (sideOf (drop k g)) ≡ suc (length (sideOf (drop (k + 1) g))) = rw (side-from g k, s) in
+      omega arith
 
-  pub left-none : (n : ℕ) → p ≡ at g i .production → k ≡ leftSideOf g p → n ≡ length g → n ≤ k → 0 ≡ leftOf g i
-  unfolding past
-  left-none n e f l h = let r : at g k ≡ past = record-past g k (omega arith) in left-found 0 e f (sym (ap (λ (x : Record). x .symbol) r))
+  pub behind-ends : (b : Bool) → b ≡ atStart g k → b ≡ true → count ≡ t
+  unfolding atStart
+  behind-ends b e f =
+      let s : isLeftSide (at g k) ≡ true = sym e ∙ f in
+      let l : length (sideOf (drop k g)) ≡ 0 = rw (side-from g k, s) in
+      omega arith
+
+  pub behind-over : (n : ℕ) → n ≡ length g → n ≤ k → count ≡ t
+  unfolding sideOf
+  behind-over n e h =
+      let past : length g ≤ k = omega arith in
+      let l : length (sideOf (drop k g)) ≡ 0 = rw (drop-of-length-le g past) in
+      omega arith
 
 -- ---- the highest symbol named
 pub named-turn : (b : Bool) (g : Grammar) (i a t n x h : ℕ) → n ≡ length g → i < n → max a (greatest (map (countNamed b) (drop i g))) ≡ t → x ≡ countNamed b (at g i) → h ≡ max a x → max h (greatest (map (countNamed b) (drop (i + 1) g))) ≡ t

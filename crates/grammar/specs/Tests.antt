@@ -1,17 +1,23 @@
 -- What the helpers of this crate answer, in the words of `rules`.
 use Prim.Native.Nat.{ℕ, _+_}
-use mathlib.Core.Bool.{Bool, true, false, _&&_, _||_}
+use mathlib.Core.Bool.{Bool, true, false, _||_}
 use mathlib.Core.List.{map}
-use lib.Dec.{eqb}
 use Rattle.base.specs.Pick.{pick}
 use Rattle.base.specs.Lists.{greatest}
 use Rattle.rules.specs.Limits.{limits}
-use Rattle.rules.specs.Records.{Record, Grammar, at, isLeftSide, isTerminal, badRecord, outOfSequence}
+use Rattle.rules.specs.Records.{Record, Grammar, at, isTerminal, badRecord, outOfSequence}
+use Rattle.rules.specs.Grammar.{leftSideOf}
 
--- record i is the left side of production p
-unfoldable pub beginsProduction : Grammar → ℕ → ℕ → Bool
-unfolding at isLeftSide
-beginsProduction g p i = isLeftSide (at g i) && eqb (at g i .production) p
+-- the nonterminal on the left of production p
+abbrev pub leftOfProduction : Grammar → ℕ → ℕ
+leftOfProduction g p = at g (leftSideOf g p) .symbol
+
+-- the left-side record of item i's production, and the nonterminal there
+abbrev pub itemLeftSide : Grammar → ℕ → ℕ
+itemLeftSide g i = leftSideOf g (at g i .production)
+
+abbrev pub itemLeft : Grammar → ℕ → ℕ
+itemLeft g i = leftOfProduction g (at g i .production)
 
 -- one more than the symbol of a record of the kind, and 0 of the other kind: terminals if the test says so, else nonterminals
 unfoldable pub countNamed : Bool → Record → ℕ

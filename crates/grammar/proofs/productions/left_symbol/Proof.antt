@@ -1,0 +1,15 @@
+-- `grammar::productions::left_symbol` meets its contract.
+use borrow.Author.Needs.{needs}
+use Rattle.grammar.proofs.LeftSides.{left-found, left-none}
+use Rattle.grammar.proofs.productions.left_symbol.Statement.{statement}
+use Rattle.grammar.proofs.productions.left_symbol.Tie as tie
+
+pub left-symbol-spec : {M : Type 1} → statement M
+left-symbol-spec =
+    tie.close
+    (tie.spec
+    (λ c κs. search needs)
+    (λ c κs. search needs)
+    (λ c κs. search needs)
+    (λ c. search (needs, left-found))
+    (λ c. search (needs, left-none)))
