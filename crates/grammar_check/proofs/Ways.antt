@@ -1,17 +1,19 @@
 -- What a definition made of tests gives on each way through them. The premises are what the code knows on that way.
-use Prim.Native.Nat.{ℕ, _+_, _≤_, _<_}
+use Prim.Native.Nat.{ℕ, _+_, _-_, _≤_, _<_}
 use mathlib.Core.Path.{_≡_}
 use mathlib.Core.Bool.{Bool, true, false, not, or-false}
 use native.Mathlib.Omega.{arith}
+use lib.ListN.{length}
 use lib.Dec.{eqb, leb, ltb}
 use borrow.Author.Tests.{eq-eqb, ne-eqb, lt-ltb, le-ltb, le-leb, lt-leb}
+use Rattle.base.specs.Loops.{firstFrom}
+use Rattle.base.proofs.Turns.{first-at, first-over}
 use Rattle.rules.specs.Limits.{limits}
 use Rattle.rules.specs.Records.{Record, Grammar, at, isTerminal, badRecord, comesBehind, inSequence, outOfSequence}
-use Rattle.rules.specs.Tokens.{TokenSet, has}
-use Rattle.rules.specs.Grammar.{atStart, start, namesStart, sideDerives, faultAt}
+use Rattle.rules.specs.Grammar.{start, namesStart, isLeftSideOf, faultAt}
 use Rattle.rules.specs.declared.GrammarRefusal.the-variants.{BadRecord, OutOfSequence}
 use Rattle.grammar.specs.Asked.{maxTerminals, maxNonterminals, maxProductions, maxSymbols}
-use Rattle.grammar_check.specs.Tests.{terminalLeft, uncollected}
+use Rattle.grammar_check.specs.Tests.{terminalLeft, lacksProduction}
 
 -- ---- refusal 4
 module _ (r : Record) (z : ℕ) (byte : z ≡ r .zeroByte) where
@@ -92,17 +94,17 @@ module _ (g : Grammar) (i : ℕ) where
     unfolding namesStart
     start-named a b n e f h = rw (ne-eqb i 0 n, ← is, e, f, h)
 
--- ---- refusal 8
-module _ (g : Grammar) (found : TokenSet) (i : ℕ) (b : Bool) (left : b ≡ atStart g i) where
-  pub collected-no-left : b ≡ false → false ≡ uncollected g found i
-  unfolding uncollected
-  collected-no-left e = rw (← left, e)
+-- ---- refusal 7; i is the record at hand and n the number of records
+module _ (g : Grammar) (a n i : ℕ) (size : n ≡ length g)
+    (rest : firstFrom (isLeftSideOf g a) (n - i) i ≡ firstFrom (isLeftSideOf g a) (length g) 0) where
+  pub has-production : (b : Bool) → i < n → b ≡ isLeftSideOf g a i → b ≡ true → false ≡ lacksProduction g a
+  unfolding lacksProduction
+  has-production b h p f =
+      let e : i ≡ firstFrom (isLeftSideOf g a) (length g) 0 = first-at (isLeftSideOf g a) n i _ b h rest p f in
+      rw (← e, ← size, lt-ltb i n h)
 
-  module _ (d : Bool) (derives : d ≡ sideDerives g found i) where
-    pub collected-no-string : b ≡ true → d ≡ false → false ≡ uncollected g found i
-    unfolding uncollected
-    collected-no-string e f = rw (← left, e, ← derives, f)
-
-    pub collected-by-set : (a : ℕ) (h : Bool) → b ≡ true → d ≡ true → a ≡ at g i .symbol → h ≡ has found a → not h ≡ uncollected g found i
-    unfolding uncollected
-    collected-by-set a h e f x y = rw (← left, e, ← derives, f, ← x, y)
+  pub has-none : i ≤ n → n ≤ i → true ≡ lacksProduction g a
+  unfolding lacksProduction
+  has-none l h =
+      let e : n ≡ firstFrom (isLeftSideOf g a) (length g) 0 = first-over (isLeftSideOf g a) n i _ l h rest in
+      rw (← e, ← size, le-ltb n n (omega arith))

@@ -11,7 +11,7 @@ ghost use Rattle.grammar.specs.Asked.{InRange};
 ghost use Rattle.grammar.specs.Tests.{isFault};
 ghost use Rattle.grammar_check.specs.Tests.{terminalLeft};
 
-// The limits of document 01: bytes of a coded grammar, terminals, nonterminals, productions, symbols on a right side.
+// The limits of document 01 on bytes, terminals, nonterminals, productions, and symbols on a right side.
 const MAX_BYTES: usize = 4096;
 
 const MAX_TERMINALS: usize = 62;

@@ -1,7 +1,6 @@
 // Which bytes are a coded grammar: refusals 3 to 8.
 mod faults;
 mod naming;
-mod productive;
 
 use rules::GrammarAnswer;
 use rules::GrammarRefusal;

@@ -8,7 +8,7 @@ use Rattle.base.proofs.ListLoops.{first-whole}
 use Rattle.base.proofs.Turns.{first-turn}
 use Rattle.rules.specs.Grammar.{isLeftSideOf}
 use Rattle.rules.specs.Records.{records}
-use Rattle.grammar_check.proofs.Laws.{has-production, has-none}
+use Rattle.grammar_check.proofs.Ways.{has-production, has-none}
 use Rattle.grammar_check.proofs.naming.lacks_production.Statement.{statement}
 use Rattle.grammar_check.proofs.naming.lacks_production.Tie as tie
 
