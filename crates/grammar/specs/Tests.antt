@@ -1,9 +1,7 @@
 -- What the helpers of this crate answer, in the words of `rules`.
 use Prim.Native.Nat.{ℕ, _+_}
 use mathlib.Core.Bool.{Bool, true, false, _||_}
-use mathlib.Core.List.{map}
 use Rattle.base.specs.Pick.{pick}
-use Rattle.base.specs.Lists.{greatest}
 use Rattle.rules.specs.Limits.{limits}
 use Rattle.rules.specs.Records.{Record, Grammar, at, isTerminal, badRecord, outOfSequence}
 use Rattle.rules.specs.Grammar.{leftSideOf}
@@ -24,10 +22,6 @@ unfoldable pub countNamed : Bool → Record → ℕ
 unfolding isTerminal
 countNamed true r = pick (isTerminal r) (r .symbol + 1) 0
 countNamed false r = pick (isTerminal r) 0 (r .symbol + 1)
-
-unfoldable pub highestNamed : Bool → Grammar → ℕ
-unfolding greatest countNamed
-highestNamed terminals g = greatest (map (countNamed terminals) g)
 
 -- record i meets refusal 4 or 5
 unfoldable pub isFault : Grammar → ℕ → Bool

@@ -21,7 +21,7 @@ fn check_symbols(g: &[u8]) -> GrammarAnswer
         let production = grammar::records::production(g, again);
         return GrammarAnswer::Refused(GrammarRefusal::StartAgain(production));
     }
-    let m = grammar::counts::nonterminal_count(g);
+    let m = grammar_numbers::counts::nonterminal_count(g);
     let without = naming::first_without(g);
     if without < m {
         return GrammarAnswer::Refused(GrammarRefusal::NoProduction(without));

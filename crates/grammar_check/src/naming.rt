@@ -16,7 +16,7 @@ fn names_start(g: &[u8], i: usize) -> bool
     if grammar::records::is_terminal(g, i) {
         return false;
     }
-    grammar::records::symbol(g, i) == grammar::counts::start(g)
+    grammar::records::symbol(g, i) == grammar_numbers::counts::start(g)
 }
 
 // Refusal 6: the first record behind the first that names the start, or the number of records if none does.
@@ -60,7 +60,7 @@ fn lacks_production(g: &[u8], a: usize) -> bool
 pub fn first_without(g: &[u8]) -> usize
     ensures { λ r. ⌜ r ≡ firstWithout (records (now (g .entry))) ⌝ }
 {
-    let m = grammar::counts::nonterminal_count(g);
+    let m = grammar_numbers::counts::nonterminal_count(g);
     for a in 0..m {
         if lacks_production(g, a) {
             return a;

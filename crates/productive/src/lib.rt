@@ -121,7 +121,7 @@ fn productive(g: &[u8]) -> u64
     requires { ⌜ Faultless (now g) ⌝ }
     ensures { λ r. ⌜ r ≡ productive (records (now (g .entry))) ⌝ }
 {
-    let m = grammar::counts::nonterminal_count(g);
+    let m = grammar_numbers::counts::nonterminal_count(g);
     let mut found: u64 = 0;
     for turn in 0..m {
         if all_collected(g, found) {
@@ -145,7 +145,7 @@ pub fn first_barren(g: &[u8]) -> usize
     requires { ⌜ Faultless (now g) ⌝ }
     ensures { λ r. ⌜ r ≡ firstBarren (records (now (g .entry))) ⌝ }
 {
-    let m = grammar::counts::nonterminal_count(g);
+    let m = grammar_numbers::counts::nonterminal_count(g);
     let found = productive(g);
     for a in 0..m {
         if is_barren(found, a) {

@@ -1,13 +1,13 @@
--- `grammar::productions::count_behind` meets its contract. The loop's invariant: what was counted and what is left to count give the number. The measure is what is left of the records.
+-- `grammar_numbers::productions::count_behind` meets its contract. The loop's invariant: what was counted and what is left to count give the number. The measure is what is left of the records.
 use Prim.Native.Nat.{_+_, _-_, _<_}
 use mathlib.Core.Path.{_≡_}
 use lib.ListN.{length, drop}
 use borrow.Author.Needs.{needs}
 use Rattle.rules.specs.Grammar.{sideOf, symbolsBehind}
 use Rattle.rules.specs.Records.{records}
-use Rattle.grammar.proofs.Laws.{behind-turn, behind-ends, behind-over}
-use Rattle.grammar.proofs.productions.count_behind.Statement.{statement}
-use Rattle.grammar.proofs.productions.count_behind.Tie as tie
+use Rattle.grammar_numbers.proofs.Halving.{behind-turn, behind-ends, behind-over}
+use Rattle.grammar_numbers.proofs.productions.count_behind.Statement.{statement}
+use Rattle.grammar_numbers.proofs.productions.count_behind.Tie as tie
 
 abbrev Inv-loop : tie.InvT-loop
 Inv-loop g i n count₀ k₀ count k = (count < k) × (count + length (sideOf (drop k (records g))) ≡ length (symbolsBehind (records g) i))

@@ -1,4 +1,4 @@
--- `grammar::counts::highest_named` meets its contract. The loop's invariant: the highest so far and what is left give the highest. The measure is what is left of the records.
+-- `grammar_numbers::counts::highest_named` meets its contract. The loop's invariant: the highest so far and what is left give the highest. The measure is what is left of the records.
 use Prim.Native.Nat.{_≤_, _-_, max}
 use mathlib.Core.List.{map}
 use mathlib.Core.Path.{_≡_}
@@ -7,10 +7,11 @@ use borrow.Author.Needs.{needs}
 use Rattle.base.specs.Lists.{greatest}
 use Rattle.base.proofs.ListLoops.{greatest-start, greatest-end}
 use Rattle.rules.specs.Records.{records}
-use Rattle.grammar.specs.Tests.{countNamed, highestNamed}
-use Rattle.grammar.proofs.Laws.{named-turn}
-use Rattle.grammar.proofs.counts.highest_named.Statement.{statement}
-use Rattle.grammar.proofs.counts.highest_named.Tie as tie
+use Rattle.grammar.specs.Tests.{countNamed}
+use Rattle.grammar_numbers.specs.Tests.{highestNamed}
+use Rattle.grammar_numbers.proofs.Named.{named-turn}
+use Rattle.grammar_numbers.proofs.counts.highest_named.Statement.{statement}
+use Rattle.grammar_numbers.proofs.counts.highest_named.Tie as tie
 
 abbrev Inv-loop : tie.InvT-loop
 Inv-loop g terminals n highest₀ i₀ highest i = (i ≤ n) × (highest ≤ 65536) × (max highest (greatest (map (countNamed terminals) (drop i (records g)))) ≡ highestNamed terminals (records g))

@@ -1,8 +1,8 @@
--- `grammar::counts::count_named` meets its contract.
+-- `grammar_numbers::counts::count_named` meets its contract.
 use borrow.Author.Needs.{needs}
-use Rattle.grammar.proofs.Laws.{named-terminal, named-no-terminal, named-nonterminal, named-no-nonterminal}
-use Rattle.grammar.proofs.counts.count_named.Statement.{statement}
-use Rattle.grammar.proofs.counts.count_named.Tie as tie
+use Rattle.grammar_numbers.proofs.Named.{named-terminal, named-no-terminal, named-nonterminal, named-no-nonterminal}
+use Rattle.grammar_numbers.proofs.counts.count_named.Statement.{statement}
+use Rattle.grammar_numbers.proofs.counts.count_named.Tie as tie
 
 pub count-named-spec : {M : Type 1} → statement M
 count-named-spec =

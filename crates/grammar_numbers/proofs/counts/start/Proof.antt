@@ -1,8 +1,8 @@
--- `grammar::counts::start` meets its contract.
+-- `grammar_numbers::counts::start` meets its contract.
 use borrow.Author.Needs.{needs}
 use Rattle.rules.specs.Grammar.{start}
-use Rattle.grammar.proofs.counts.start.Statement.{statement}
-use Rattle.grammar.proofs.counts.start.Tie as tie
+use Rattle.grammar_numbers.proofs.counts.start.Statement.{statement}
+use Rattle.grammar_numbers.proofs.counts.start.Tie as tie
 
 returns : tie.Need-returns
 unfolding start

@@ -14,10 +14,10 @@ pub fn left_side_of(g: &[u8], p: usize) -> usize
     ensures { λ r. ⌜ (r ≡ leftSideOf (records (now (g .entry))) p) × (r ≤ length (records (now (g .entry)))) ⌝ }
 {
     let mut low: usize = 0;
-    let mut high = crate::records::record_count(g);
+    let mut high = grammar::records::record_count(g);
     while low < high {
         let middle = low + (high - low) / 2;
-        if crate::records::production(g, middle) < p {
+        if grammar::records::production(g, middle) < p {
             low = middle + 1;
             continue;
         }
@@ -32,8 +32,8 @@ pub fn left_symbol(g: &[u8], p: usize) -> usize
     ensures { λ r. ⌜ r ≡ leftOfProduction (records (now (g .entry))) p ⌝ }
 {
     let left = left_side_of(g, p);
-    if left < crate::records::record_count(g) {
-        return crate::records::symbol(g, left);
+    if left < grammar::records::record_count(g) {
+        return grammar::records::symbol(g, left);
     }
     0
 }
@@ -43,10 +43,10 @@ fn count_behind(g: &[u8], i: usize) -> usize
     requires { ⌜ i ≤ length (records (now g)) ⌝ }
     ensures { λ r. ⌜ r ≡ length (symbolsBehind (records (now (g .entry))) i) ⌝ }
 {
-    let n = crate::records::record_count(g);
+    let n = grammar::records::record_count(g);
     let mut count: usize = 0;
     for k in i + 1..n {
-        if crate::items::at_start(g, k) {
+        if grammar::items::at_start(g, k) {
             return count;
         }
         count = count + 1;

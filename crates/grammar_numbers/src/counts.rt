@@ -5,8 +5,9 @@ ghost use Prim.Native.Nat.{_+_, _≤_, max};
 ghost use Rattle.base.specs.Pick.{pick};
 ghost use Rattle.rules.specs.Records.{at, records};
 ghost use Rattle.rules.specs.Grammar.{atStart, start, terminalCount, nonterminalCount, productionCount};
 ghost use Rattle.grammar.specs.Asked.{InRange, maxNumber};
-ghost use Rattle.grammar.specs.Tests.{countNamed, highestNamed};
+ghost use Rattle.grammar.specs.Tests.{countNamed};
+ghost use Rattle.grammar_numbers.specs.Tests.{highestNamed};
 
 // The greater of two numbers.
 fn larger(a: usize, b: usize) -> usize
@@ -23,23 +24,23 @@ fn count_named(g: &[u8], terminals: bool, i: usize) -> usize
     requires { ⌜ InRange i (now g) ⌝ }
     ensures { λ r. ⌜ (r ≡ countNamed terminals (at (records (now (g .entry))) i)) × (r ≤ maxNumber + 1) ⌝ }
 {
-    if crate::records::is_terminal(g, i) {
+    if grammar::records::is_terminal(g, i) {
         if terminals {
-            return crate::records::symbol(g, i) + 1;
+            return grammar::records::symbol(g, i) + 1;
         }
         return 0;
     }
     if terminals {
         return 0;
     }
-    crate::records::symbol(g, i) + 1
+    grammar::records::symbol(g, i) + 1
 }
 
 // One more than the highest symbol named of a kind, terminals or nonterminals; 0 if none is.
 fn highest_named(g: &[u8], terminals: bool) -> usize
     ensures { λ r. ⌜ (r ≡ highestNamed terminals (records (now (g .entry)))) × (r ≤ maxNumber + 1) ⌝ }
 {
-    let n = crate::records::record_count(g);
+    let n = grammar::records::record_count(g);
     let mut highest: usize = 0;
     for i in 0..n {
         highest = larger(highest, count_named(g, terminals, i));
@@ -66,7 +67,7 @@ pub fn start(g: &[u8]) -> usize
     requires { ⌜ InRange 0 (now g) ⌝ }
     ensures { λ r. ⌜ r ≡ start (records (now (g .entry))) ⌝ }
 {
-    crate::records::symbol(g, 0)
+    grammar::records::symbol(g, 0)
 }
 
 // 1 if record i is a left side, else 0.
@@ -74,7 +75,7 @@ fn count_start(g: &[u8], i: usize) -> usize
     requires { ⌜ InRange i (now g) ⌝ }
     ensures { λ r. ⌜ (r ≡ pick (atStart (records (now (g .entry))) i) 1 0) × (r ≤ 1) ⌝ }
 {
-    if crate::items::at_start(g, i) {
+    if grammar::items::at_start(g, i) {
         return 1;
     }
     0
@@ -84,7 +85,7 @@ fn count_start(g: &[u8], i: usize) -> usize
 pub fn production_count(g: &[u8]) -> usize
     ensures { λ r. ⌜ r ≡ productionCount (records (now (g .entry))) ⌝ }
 {
-    let n = crate::records::record_count(g);
+    let n = grammar::records::record_count(g);
     let mut count: usize = 0;
     for i in 0..n {
         count = count + count_start(g, i);
