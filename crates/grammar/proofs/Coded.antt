@@ -56,13 +56,14 @@ module _ (g : Grammar) (clean : NoFault g) (i : ℕ) (h : i < length g) where
   in-sequence = not-false _ (or-false (not (inSequence g i)) _ fine-place .0)
 
   -- what refusal 5 asks besides
-  in-limits : ((isLeftSide (at g i) && isTerminal (at g i)) || (leb maxProductions (at g i .production) || ltb maxSymbols (at g i .position))) ≡ false
+  in-limits : ((isLeftSide (at g i) && isTerminal (at g i))
+      || (leb maxProductions (at g i .production) || ltb maxSymbols (at g i .position))) ≡ false
   unfolding outOfSequence limits
   in-limits = or-false (not (inSequence g i)) _ fine-place .1
 
   pub left-nonterminal : isLeftSide (at g i) ≡ true → isTerminal (at g i) ≡ false
   left-nonterminal e =
-      let both : (isLeftSide (at g i) && isTerminal (at g i)) ≡ false = or-false (isLeftSide (at g i) && isTerminal (at g i)) _ in-limits .0 in
+      let both = or-false (isLeftSide (at g i) && isTerminal (at g i)) _ in-limits .0 in
       rw e at both
 
   place-limits : (leb maxProductions (at g i .production) || ltb maxSymbols (at g i .position)) ≡ false

@@ -1,4 +1,4 @@
--- The laws that this crate's functions go by: what a record of the bytes holds, what stands behind a dot, and where the left sides are.
+-- What this crate's functions go by: what a record of the bytes holds, what stands behind a dot, where the left sides are.
 use Prim.Native.Nat.{ℕ, zero, suc, _+_, _*_, _/_, _≤_, _<_}
 use mathlib.Core.Path.{_≡_, refl, sym, ap, _∙_}
 use mathlib.Core.List.{List}
@@ -56,11 +56,13 @@ module _ (g : Grammar) (i : ℕ) (b : Bool) (last : b ≡ atEnd g i) where
     unfolding isBefore
     before-a-nonterminal a e f = rw (← last, e, ← behind, f)
 
-    pub before-that-nonterminal : (a s : ℕ) → b ≡ false → t ≡ false → s ≡ at g (i + 1) .symbol → eqb s a ≡ isBefore g (nonterminal a) i
+    pub before-that-nonterminal : (a s : ℕ) → b ≡ false → t ≡ false
+        → s ≡ at g (i + 1) .symbol → eqb s a ≡ isBefore g (nonterminal a) i
     unfolding isBefore
     before-that-nonterminal a s e f h = rw (← last, e, ← behind, f, h)
 
-    pub before-that-terminal : (a s : ℕ) → b ≡ false → t ≡ true → s ≡ at g (i + 1) .symbol → eqb s a ≡ isBefore g (terminal a) i
+    pub before-that-terminal : (a s : ℕ) → b ≡ false → t ≡ true
+        → s ≡ at g (i + 1) .symbol → eqb s a ≡ isBefore g (terminal a) i
     unfolding isBefore
     before-that-terminal a s e f h = rw (← last, e, ← behind, f, h)
 

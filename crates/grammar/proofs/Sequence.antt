@@ -1,5 +1,5 @@
--- Records in sequence: the numbers of productions ascend, a record's left side stands its position before it, and the first record that
--- belongs to no earlier production is the left side of the production asked for.
+-- Records in sequence: the numbers of productions ascend, a record's left side stands its position before it, and the first record
+-- that belongs to no earlier production is the left side of the production asked for.
 use Prim.Native.Nat.{ℕ, zero, suc, _+_, _-_, _<_, _≤_}
 use mathlib.Core.Path.{_≡_, refl, sym, ap, _∙_}
 use mathlib.Core.Logic.{⊎-elim}
@@ -17,7 +17,8 @@ use Rattle.rules.specs.Records.{Record, Grammar, at, isLeftSide, comesBehind, i
 use Rattle.rules.specs.Grammar.{leftSideOf}
 
 -- the number at which no earlier one passes, and which passes if it is one of the n, is the first that passes
-first-is : (test : ℕ → Bool) (n k : ℕ) → k ≤ n → (k < n → test k ≡ true) → ((j : ℕ) → j < k → test j ≡ true → ⊥) → firstFrom test n 0 ≡ k
+first-is : (test : ℕ → Bool) (n k : ℕ) → k ≤ n → (k < n → test k ≡ true)
+    → ((j : ℕ) → j < k → test j ≡ true → ⊥) → firstFrom test n 0 ≡ k
 first-is test n k l passes none = omega (arith, not-later, not-earlier)
   where
     not-later : firstFrom test n 0 ≤ k
@@ -56,7 +57,8 @@ module _ (g : Grammar) (sequence : (i : ℕ) → i < length g → inSequence g i
   unfolding inSequence
   follows i h =
       let k : suc i - 1 ≡ i = omega arith in
-      let e : comesBehind (at g (suc i - 1)) (at g (suc i)) ≡ true = rw (ne-eqb (suc i) 0 (λ z. omega arith)) at (sequence (suc i) h) in
+      let some : eqb (suc i) 0 ≡ false = ne-eqb (suc i) 0 (λ z. omega arith) in
+      let e : comesBehind (at g (suc i - 1)) (at g (suc i)) ≡ true = rw some at (sequence (suc i) h) in
       behind-follows (at g i) (at g (suc i)) (rw k at e)
 
   pub ascends : (i j : ℕ) → i < length g → j ≤ i → at g j .production ≤ at g i .production
@@ -113,7 +115,8 @@ module _ (g : Grammar) (sequence : (i : ℕ) → i < length g → inSequence g i
       (omega arith, k ∙ sym (left-side-is (s .place) (omega arith) (s .left)) ∙ ap (leftSideOf g) (s .same))
 
   -- the first record that belongs to no production before p
-  pub left-side-first : (p k : ℕ) → k ≤ length g → ((j : ℕ) → j < k → at g j .production < p) → (k < length g → p ≤ at g k .production) → leftSideOf g p ≡ k
+  pub left-side-first : (p k : ℕ) → k ≤ length g → ((j : ℕ) → j < k → at g j .production < p)
+      → (k < length g → p ≤ at g k .production) → leftSideOf g p ≡ k
   unfolding leftSideOf isLeftSide
   left-side-first p k l below above = first-is _ (length g) k l (λ h. passes k h below (above h)) none
     where
@@ -122,7 +125,8 @@ module _ (g : Grammar) (sequence : (i : ℕ) → i < length g → inSequence g i
       passes zero h low up = let (e, f) = first-record h in rw (eq-eqb _ _ f, eq-eqb (at g 0 .production) p (omega arith))
       passes (suc i) h low up = go (follows i h) (low i (omega arith))
         where
-          go : Follows (at g i) (at g (suc i)) → at g i .production < p → (eqb (at g (suc i) .position) 0 && eqb (at g (suc i) .production) p) ≡ true
+          go : Follows (at g i) (at g (suc i)) → at g i .production < p
+              → (eqb (at g (suc i) .position) 0 && eqb (at g (suc i) .production) p) ≡ true
           go (next e f) b = absurd (omega arith)
           go (begins e f) b = rw (eq-eqb _ _ f, eq-eqb (at g (suc i) .production) p (omega arith))
 

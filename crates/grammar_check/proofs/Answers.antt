@@ -49,7 +49,8 @@ module _ (bytes : List ℕ) (b : Bool) (long : b ≡ badLength limits bytes) whe
   length-refused t = rw (← long, t)
 
   module _ (n k : ℕ) (size : n ≡ length (records bytes)) (fault : k ≡ firstFault limits (records bytes)) where
-    pub record-refused : (f : GrammarRefusal) → b ≡ false → k < n → f ≡ faultAt limits (records bytes) k → Refused f ≡ grammarAnswer limits bytes
+    pub record-refused : (f : GrammarRefusal) → b ≡ false → k < n
+        → f ≡ faultAt limits (records bytes) k → Refused f ≡ grammarAnswer limits bytes
     unfolding grammarAnswer
     record-refused f t h e = rw (← long, t, ← fault, ← size, lt-ltb k n h, ← e)
 

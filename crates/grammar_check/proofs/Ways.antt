@@ -10,9 +10,10 @@ use Rattle.base.specs.Loops.{firstFrom}
 use Rattle.base.proofs.Turns.{first-at, first-over}
 use Rattle.rules.specs.Limits.{limits}
 use Rattle.rules.specs.Records.{Record, Grammar, at, isTerminal, badRecord, comesBehind, inSequence, outOfSequence}
-use Rattle.rules.specs.Grammar.{start, namesStart, isLeftSideOf, faultAt}
+use Rattle.rules.specs.Grammar.{atStart, start, namesStart, isLeftSideOf, faultAt}
 use Rattle.rules.specs.declared.GrammarRefusal.the-variants.{BadRecord, OutOfSequence}
 use Rattle.grammar.specs.Asked.{maxTerminals, maxNonterminals, maxProductions, maxSymbols}
+use Rattle.grammar.specs.Tests.{isFault}
 use Rattle.grammar_check.specs.Tests.{terminalLeft, lacksProduction}
 
 -- ---- refusal 4
@@ -65,12 +66,21 @@ module _ (g : Grammar) (i : ℕ) (s : Bool) (follows : s ≡ inSequence g i) whe
       unfolding outOfSequence limits terminalLeft
       out-production e f h = rw (← follows, e, ← left, f, ← production, le-leb maxProductions p h)
 
-      pub out-position : (x : ℕ) → not s ≡ false → t ≡ false → p < maxProductions → x ≡ at g i .position → ltb maxSymbols x ≡ outOfSequence limits g i
+      pub out-position : (x : ℕ) → not s ≡ false → t ≡ false → p < maxProductions
+          → x ≡ at g i .position → ltb maxSymbols x ≡ outOfSequence limits g i
       unfolding outOfSequence limits terminalLeft
       out-position x e f h z = rw (← follows, e, ← left, f, ← production, lt-leb maxProductions p h, z)
 
 -- ---- 4 before 5 within a record
 module _ (g : Grammar) (i : ℕ) (b : Bool) (bad : b ≡ badRecord limits (at g i)) where
+  pub faulty-symbol : b ≡ true → true ≡ isFault g i
+  unfolding isFault
+  faulty-symbol e = rw (← bad, e)
+
+  pub faulty-place : (s : Bool) → b ≡ false → s ≡ outOfSequence limits g i → s ≡ isFault g i
+  unfolding isFault
+  faulty-place s e f = rw (← bad, e, f)
+
   pub fault-four : b ≡ true → BadRecord i ≡ faultAt limits g i
   unfolding faultAt
   fault-four e = rw (← bad, e)
@@ -94,7 +104,17 @@ module _ (g : Grammar) (i : ℕ) where
     unfolding namesStart
     start-named a b n e f h = rw (ne-eqb i 0 n, ← is, e, f, h)
 
--- ---- refusal 7; i is the record at hand and n the number of records
+-- ---- refusal 7
+module _ (g : Grammar) (a i : ℕ) (b : Bool) (left : b ≡ atStart g i) where
+  pub left-side-named : (s : ℕ) → b ≡ true → s ≡ at g i .symbol → eqb s a ≡ isLeftSideOf g a i
+  unfolding isLeftSideOf
+  left-side-named s e f = rw (← left, e, f)
+
+  pub no-left-side : b ≡ false → false ≡ isLeftSideOf g a i
+  unfolding isLeftSideOf
+  no-left-side e = rw (← left, e)
+
+-- i is the record at hand and n the number of records
 module _ (g : Grammar) (a n i : ℕ) (size : n ≡ length g)
     (rest : firstFrom (isLeftSideOf g a) (n - i) i ≡ firstFrom (isLeftSideOf g a) (length g) 0) where
   pub has-production : (b : Bool) → i < n → b ≡ isLeftSideOf g a i → b ≡ true → false ≡ lacksProduction g a

@@ -60,7 +60,8 @@ module _ (bytes : List ℕ) (clean : Faultless bytes) (p low high : ℕ) (so-far
   halving-ends h =
       let o = so-far .ordered in
       let same : high ≡ low = omega arith in
-      sym (left-side-first (records bytes) sequence p low (rw same at (so-far .within)) (so-far .below) (rw same at (so-far .above)))
+      let within : low ≤ length (records bytes) = rw same at (so-far .within) in
+      sym (left-side-first (records bytes) sequence p low within (so-far .below) (rw same at (so-far .above)))
 
 -- ---- what stands at the left side, and behind it; k is the record
 module _ (g : Grammar) (p k : ℕ) (e : k ≡ leftSideOf g p) where

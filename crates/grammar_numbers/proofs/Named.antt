@@ -5,6 +5,7 @@ use mathlib.Core.List.{map}
 use mathlib.Core.Bool.{Bool, true, false}
 use native.Mathlib.Omega.{arith}
 use lib.ListN.{length, drop}
+use Rattle.base.specs.Pick.{pick}
 use Rattle.base.specs.Lists.{greatest}
 use Rattle.base.proofs.ListLoops.{kept, greatest-turn}
 use Rattle.rules.specs.Records.{Record, Grammar, past, at, isTerminal}
@@ -32,7 +33,9 @@ module _ (r : Record) (b t : Bool) (is : b ≡ isTerminal r) where
   named-no-nonterminal e f = rw (f, ← is, e)
 
 -- ---- the highest symbol named
-pub named-turn : (b : Bool) (g : Grammar) (i a t n x h : ℕ) → n ≡ length g → i < n → max a (greatest (map (countNamed b) (drop i g))) ≡ t → x ≡ countNamed b (at g i) → h ≡ max a x → max h (greatest (map (countNamed b) (drop (i + 1) g))) ≡ t
+pub named-turn : (b : Bool) (g : Grammar) (i a t n x h : ℕ) → n ≡ length g → i < n
+    → max a (greatest (map (countNamed b) (drop i g))) ≡ t → x ≡ countNamed b (at g i) → h ≡ max a x
+    → max h (greatest (map (countNamed b) (drop (i + 1) g))) ≡ t
 unfolding at
 named-turn b g = greatest-turn (countNamed b) past g
 
@@ -45,6 +48,13 @@ unfolding highestNamed nonterminalCount
 nonterminals-named g n e = e
 
 -- ---- the productions of n records
+module _ (g : Grammar) (i : ℕ) (b : Bool) (left : b ≡ atStart g i) where
+  pub left-counts : b ≡ true → _≡_ {A = ℕ} 1 (pick (atStart g i) 1 0)
+  left-counts e = rw (← left, e)
+
+  pub right-counts-not : b ≡ false → _≡_ {A = ℕ} 0 (pick (atStart g i) 1 0)
+  right-counts-not e = rw (← left, e)
+
 pub productions-start : (g : Grammar) (n : ℕ) → n ≡ length g → 0 + length (kept (atStart g) n 0) ≡ productionCount g
 unfolding productionCount
 productions-start g n e = let l = ap length (left-sides g n e) in omega arith
