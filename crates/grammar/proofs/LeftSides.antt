@@ -1,9 +1,8 @@
 -- The left side of a record's production in the code's terms: it stands the record's position before it.
-use Prim.Native.Nat.{ℕ, _+_, _*_, _-_, _<_, _≤_}
+use Prim.Native.Nat.{ℕ, _-_, _<_, _≤_}
 use mathlib.Core.Path.{_≡_, ap, _∙_}
 use mathlib.Core.List.{List}
 use native.Mathlib.Omega.{arith}
-use lib.ListN.{length}
 use Rattle.rules.proofs.Laws.{length-records}
 use Rattle.rules.specs.Records.{Grammar, records, at}
 use Rattle.rules.specs.Grammar.{leftSideOf}

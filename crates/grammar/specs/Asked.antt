@@ -1,5 +1,5 @@
--- What the functions over the bytes of a grammar ask of them, and the bounds of the numbers that they read. Each is the expression that
--- it abbreviates, wherever it stands.
+-- What the functions over the bytes of a grammar ask of them, and the bounds of the numbers that they read. Each name stands for its
+-- expression everywhere.
 use Prim.Native.Nat.{ℕ, _+_, _*_, _≤_, _<_}
 use mathlib.Core.Path.{_≡_}
 use mathlib.Core.List.{List}
@@ -12,7 +12,7 @@ use Rattle.rules.specs.Grammar.{firstFault}
 abbrev pub InRange : ℕ → List ℕ → Type 0
 InRange i bytes = 8 * i + 8 ≤ length bytes
 
--- the bytes have n whole records, and no byte of a further one but fewer than eight
+-- the bytes have n whole records, and fewer than eight bytes behind them
 abbrev pub WholeRecords : ℕ → List ℕ → Type 0
 WholeRecords n bytes = (8 * n ≤ length bytes) × (length bytes < 8 * n + 8)
 
