@@ -165,6 +165,14 @@ def damages():
             yield f"byte {at} is {value}", good[:at] + bytes([value]) + good[at + 1:]
 
 
+def given(digits):
+    """The bytes of hexadecimal digits."""
+    try:
+        return bytes.fromhex(digits)
+    except ValueError:
+        sys.exit(f"{digits} is no list of bytes in hexadecimal digits")
+
+
 def line(name, data):
     refusal = answer(data)
     return f"{name}: " + ("coded" if refusal is None else "refused %d %d" % refusal)
@@ -180,8 +188,11 @@ def write(folder):
 
 if __name__ == "__main__":
     if len(sys.argv) == 3 and sys.argv[1] == "read":
-        print(line("given", bytes.fromhex(sys.argv[2])))
+        print(line("given", given(sys.argv[2])))
     elif len(sys.argv) == 3 and sys.argv[1] == "write":
-        write(sys.argv[2])
+        try:
+            write(sys.argv[2])
+        except OSError as why:
+            sys.exit(f"the cases were not written: {why}")
     else:
         sys.exit(__doc__)

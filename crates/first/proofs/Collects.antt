@@ -8,18 +8,20 @@ use lib.ListN.{length, drop, drop-of-length-le}
 use borrow.Author.Tests.{not-true, not-false}
 use Rattle.base.specs.Pick.{pick}
 use Rattle.base.proofs.Each.{each-at}
+use Rattle.rules.specs.Limits.{workSize}
 use Rattle.rules.specs.Records.{Grammar, at, records, isTerminal}
 use Rattle.rules.specs.Tokens.{TokenSet, has, single, join, without}
 use Rattle.rules.specs.Grammar.{Symbol, nonterminal, terminal, symbolOf, sideOf, symbolsBehind, atStart, nonterminalCount}
 use Rattle.rules.specs.First.{Sets, setOf, first0}
 use Rattle.room.specs.Areas.{Room, view, withSets}
-use Rattle.room.specs.Bounds.{workSize, LongEnough, IsSlot}
+use Rattle.room.specs.Bounds.{LongEnough, IsSlot}
 use Rattle.room.proofs.Lengths.{view-lengths}
 use Rattle.lookahead.specs.Sets.{loadSet, setAt, putSet}
 use Rattle.lookahead.proofs.Slots.{store-loaded, put-there, put-again}
 use Rattle.rules.proofs.Laws.{length-records, side-from, nonterminal-counted-at}
+use Rattle.grammar.specs.Asked.{InRange, NoFault, Faultless}
 use Rattle.grammar.proofs.Coded.{nonterminal-count-below, symbol-read}
-use Rattle.first.specs.Asked.{InRange, NoFault, Faultless, NotFirst}
+use Rattle.first.specs.Asked.{NotFirst}
 use Rattle.first.specs.Firsts.{firstsIn, joinSymbol, goesOn}
 use Rattle.sets.proofs.Joins.{none-lacks, without-lacks, join-none, join-assoc, join-lacks, join-had, without-join, without-none}
 use Rattle.first.proofs.Loads.{loads-before}

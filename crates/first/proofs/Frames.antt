@@ -8,20 +8,21 @@ use native.Mathlib.Omega.{arith}
 use native.Mathlib.Decide.{ℕ-discrete, decLe}
 use lib.ListN.{length, getD}
 use Rattle.base.proofs.Each.{each-at}
+use Rattle.rules.specs.Limits.{workSize, maxNonterminals}
 use Rattle.rules.specs.Records.{Grammar, at, records, isLeftSide}
 use Rattle.rules.specs.Tokens.{join, within}
 use Rattle.rules.specs.Grammar.{atStart, symbolsBehind, nonterminalCount}
 use Rattle.rules.specs.First.{Sets, setOf, first0, addFirst, firstSets}
 use Rattle.room.specs.Areas.{Room, view, withSets}
-use Rattle.room.specs.Bounds.{workSize, LongEnough, slotCount, maxNonterminals}
+use Rattle.room.specs.Bounds.{LongEnough, slotCount}
 use Rattle.room.specs.Slots.{handSlot}
 use Rattle.room.proofs.Lengths.{view-lengths}
 use Rattle.room.proofs.Whole.{view-inj}
 use Rattle.lookahead.specs.Sets.{loadSet, setAt, putSet}
 use Rattle.lookahead.proofs.Slots.{same-words, put-there, put-elsewhere, length-stored-set}
 use Rattle.rules.proofs.Laws.{length-records, nonterminal-counted-at}
+use Rattle.grammar.specs.Asked.{InRange, NoFault, Faultless}
 use Rattle.grammar.proofs.Coded.{nonterminal-count-below, left-nonterminal}
-use Rattle.first.specs.Asked.{InRange, NoFault, Faultless}
 use Rattle.first.specs.Firsts.{firstsIn, hasFirst, OnlyFirsts, FirstsFound}
 use Rattle.first.proofs.Loads.{loads-stored}
 use Rattle.first.proofs.Growth.{add-first-is}

@@ -12,11 +12,12 @@ use Rattle.base.specs.Pick.{pick}
 use Rattle.base.specs.Loops.{until}
 use Rattle.base.specs.Lists.{eachOf, foldOver}
 use Rattle.base.proofs.ListLoops.{kept, kept-each-turn, kept-each-fails, kept-each-end, until-turn, until-end}
+use Rattle.rules.specs.Limits.{maxNonterminals}
 use Rattle.rules.specs.Records.{Grammar, at}
 use Rattle.rules.specs.Tokens.{join}
 use Rattle.rules.specs.Grammar.{atStart, leftSides, symbolsBehind, terminalCount, nonterminalCount}
 use Rattle.rules.specs.First.{Sets, setOf, first0, addFirst, firstSettled, firstSets}
-use Rattle.room.specs.Bounds.{maxNonterminals, FewTerminals}
+use Rattle.room.specs.Bounds.{FewTerminals}
 use Rattle.sets.proofs.Laws.{join-within}
 use Rattle.grammar.proofs.Laws.{left-sides}
 use Rattle.first.specs.Firsts.{hasFirst}

@@ -1,5 +1,5 @@
 -- What holds of a grammar whose records meet neither refusal 4 nor 5, and of bytes that the check answers `Coded`.
-use Prim.Native.Nat.{ℕ, _+_, _*_, _%_, _≤_, _<_}
+use Prim.Native.Nat.{ℕ, _%_, _≤_, _<_}
 use mathlib.Core.Path.{_≡_, refl, _∙_}
 use mathlib.Core.Bool.{Bool, true, false, not, _&&_, _||_}
 use mathlib.Core.List.{List}
@@ -12,79 +12,106 @@ use Rattle.base.specs.Pick.{pick}
 use Rattle.base.proofs.ListLoops.{first-never, first-bound, greatest-below}
 use Rattle.base.proofs.Tests.{or-false}
 use Rattle.rules.proofs.Laws.{length-records}
-use Rattle.rules.specs.Limits.{limits}
+use Rattle.rules.specs.Limits.{limits, maxTerminals, maxNonterminals, maxProductions, maxSymbols, maxBytes}
 use Rattle.rules.specs.Records.{Record, Grammar, records, past, at, isTerminal, isLeftSide, badLength, badRecord, inSequence, outOfSequence}
 use Rattle.rules.specs.Grammar.{firstFault, terminalCount, nonterminalCount, grammarAnswer}
 use Rattle.rules.specs.declared.GrammarRefusal.{GrammarRefusal}
 use Rattle.rules.specs.declared.GrammarRefusal.the-variants.{Length}
 use Rattle.rules.specs.declared.GrammarAnswer.the-variants.{Coded, Refused}
+use Rattle.grammar.specs.Asked.{InRange, NoFault, Faultless}
 use Rattle.grammar.specs.Tests.{isFault, countNamed}
 
 -- ---- one record
 module _ (r : Record) (fine : badRecord limits r ≡ false) where
-  symbol-limit : r .symbol < pick (isTerminal r) 62 64
+  symbol-limit : r .symbol < pick (isTerminal r) maxTerminals maxNonterminals
   unfolding badRecord limits
   symbol-limit = leb-false _ _ (or-false (ltb 1 (r .kind)) _ (or-false (not (eqb (r .zeroByte) 0)) _ fine .1) .1)
 
-  pub terminal-below : isTerminal r ≡ true → r .symbol < 62
+  pub terminal-below : isTerminal r ≡ true → r .symbol < maxTerminals
   terminal-below t = rw t at symbol-limit
 
-  pub symbol-below : r .symbol < 64
+  pub symbol-below : r .symbol < maxNonterminals
   symbol-below = go (isTerminal r) refl
     where
-      go : (b : Bool) → isTerminal r ≡ b → r .symbol < 64
-      go true t = let h : r .symbol < 62 = rw t at symbol-limit in omega arith
+      go : (b : Bool) → isTerminal r ≡ b → r .symbol < maxNonterminals
+      go true t = let h : r .symbol < maxTerminals = rw t at symbol-limit in omega arith
       go false t = rw t at symbol-limit
 
--- ---- the records of a grammar
-module _ (g : Grammar) (clean : firstFault limits g ≡ length g) where
-  pub no-fault : (i : ℕ) → i < length g → isFault g i ≡ false
+-- ---- a record of a grammar
+module _ (g : Grammar) (clean : NoFault g) (i : ℕ) (h : i < length g) where
+  no-fault : isFault g i ≡ false
   unfolding firstFault isFault
-  no-fault i h = first-never (isFault g) (length g) 0 i (clean ∙ omega arith) (omega arith) (omega arith)
+  no-fault = first-never (isFault g) (length g) 0 i (clean ∙ omega arith) (omega arith) (omega arith)
 
-  pub fine-record : (i : ℕ) → i < length g → badRecord limits (at g i) ≡ false
+  pub fine-record : badRecord limits (at g i) ≡ false
   unfolding isFault
-  fine-record i h = or-false (badRecord limits (at g i)) _ (no-fault i h) .0
+  fine-record = or-false (badRecord limits (at g i)) _ no-fault .0
 
-  pub fine-place : (i : ℕ) → i < length g → outOfSequence limits g i ≡ false
+  fine-place : outOfSequence limits g i ≡ false
   unfolding isFault
-  fine-place i h = or-false (badRecord limits (at g i)) _ (no-fault i h) .1
+  fine-place = or-false (badRecord limits (at g i)) _ no-fault .1
 
-pub symbol-within : (bytes : List ℕ) (i : ℕ) → firstFault limits (records bytes) ≡ length (records bytes) → 8 * i + 8 ≤ length bytes → at (records bytes) i .symbol < 64
-symbol-within bytes i clean h =
-    let l = length-records bytes in
-    symbol-below (at (records bytes) i) (fine-record (records bytes) clean i (omega arith))
+  pub in-sequence : inSequence g i ≡ true
+  unfolding outOfSequence limits
+  in-sequence = not-false _ (or-false (not (inSequence g i)) _ fine-place .0)
 
-pub symbol-read : (bytes : List ℕ) (i a : ℕ) → firstFault limits (records bytes) ≡ length (records bytes) → 8 * i + 8 ≤ length bytes → a ≡ at (records bytes) i .symbol → a < 64
-symbol-read bytes i a clean h e = rw e (symbol-within bytes i clean h)
+  -- what refusal 5 asks besides
+  in-limits : ((isLeftSide (at g i) && isTerminal (at g i))
+      || (leb maxProductions (at g i .production) || ltb maxSymbols (at g i .position))) ≡ false
+  unfolding outOfSequence limits
+  in-limits = or-false (not (inSequence g i)) _ fine-place .1
+
+  pub left-nonterminal : isLeftSide (at g i) ≡ true → isTerminal (at g i) ≡ false
+  left-nonterminal e =
+      let both = or-false (isLeftSide (at g i) && isTerminal (at g i)) _ in-limits .0 in
+      rw e at both
+
+  place-limits : (leb maxProductions (at g i .production) || ltb maxSymbols (at g i .position)) ≡ false
+  place-limits = or-false (isLeftSide (at g i) && isTerminal (at g i)) _ in-limits .1
+
+  pub production-below : at g i .production < maxProductions
+  production-below = leb-false _ _ (or-false (leb maxProductions (at g i .production)) _ place-limits .0)
+
+  pub position-below : at g i .position ≤ maxSymbols
+  position-below = ltb-false _ _ (or-false (leb maxProductions (at g i .production)) _ place-limits .1)
+
+-- ---- the symbol of a record of the bytes
+module _ (bytes : List ℕ) (i : ℕ) where
+  pub symbol-within : Faultless bytes → InRange i bytes → at (records bytes) i .symbol < maxNonterminals
+  symbol-within clean h =
+      let l = length-records bytes in
+      symbol-below (at (records bytes) i) (fine-record (records bytes) clean i (omega arith))
+
+  pub symbol-read : (a : ℕ) → Faultless bytes → InRange i bytes → a ≡ at (records bytes) i .symbol → a < maxNonterminals
+  symbol-read a clean h e = rw e (symbol-within clean h)
 
 -- ---- n and m
-module _ (g : Grammar) (clean : firstFault limits g ≡ length g) where
-  terminal-named : (i : ℕ) → i < length g → countNamed true (at g i) ≤ 62
+module _ (g : Grammar) (clean : NoFault g) where
+  terminal-named : (i : ℕ) → i < length g → countNamed true (at g i) ≤ maxTerminals
   unfolding countNamed
   terminal-named i h = go (isTerminal (at g i)) refl
     where
-      go : (b : Bool) → isTerminal (at g i) ≡ b → countNamed true (at g i) ≤ 62
+      go : (b : Bool) → isTerminal (at g i) ≡ b → countNamed true (at g i) ≤ maxTerminals
       go true t = let l = terminal-below (at g i) (fine-record g clean i h) t in rw t (omega arith)
       go false t = rw t (omega arith)
 
-  nonterminal-named : (i : ℕ) → i < length g → countNamed false (at g i) ≤ 64
+  nonterminal-named : (i : ℕ) → i < length g → countNamed false (at g i) ≤ maxNonterminals
   unfolding countNamed
   nonterminal-named i h = go (isTerminal (at g i)) refl
     where
-      go : (b : Bool) → isTerminal (at g i) ≡ b → countNamed false (at g i) ≤ 64
+      go : (b : Bool) → isTerminal (at g i) ≡ b → countNamed false (at g i) ≤ maxNonterminals
       go true t = rw t (omega arith)
       go false t = let l = symbol-below (at g i) (fine-record g clean i h) in rw t (omega arith)
 
-  pub terminal-count-below : terminalCount g ≤ 62
+  pub terminal-count-below : terminalCount g ≤ maxTerminals
   unfolding terminalCount countNamed at
-  terminal-count-below = greatest-below (countNamed true) past 62 g terminal-named
+  terminal-count-below = greatest-below (countNamed true) past maxTerminals g terminal-named
 
-  pub nonterminal-count-below : nonterminalCount g ≤ 64
+  pub nonterminal-count-below : nonterminalCount g ≤ maxNonterminals
   unfolding nonterminalCount countNamed at
-  nonterminal-count-below = greatest-below (countNamed false) past 64 g nonterminal-named
+  nonterminal-count-below = greatest-below (countNamed false) past maxNonterminals g nonterminal-named
 
-pub nonterminal-within : (g : Grammar) (m a : ℕ) → firstFault limits g ≡ length g → m ≡ nonterminalCount g → a < m → a < 64
+pub nonterminal-within : (g : Grammar) (m a : ℕ) → NoFault g → m ≡ nonterminalCount g → a < m → a < maxNonterminals
 nonterminal-within g m a clean e h = let l = nonterminal-count-below g clean in omega arith
 
 -- ---- bytes that the check answers `Coded`
@@ -114,43 +141,22 @@ module _ (bytes : List ℕ) (answer : grammarAnswer limits bytes ≡ Coded) wher
   unfolding grammarAnswer
   length-fine = pick-test (badLength limits bytes) (Refused Length) _ Coded answer (refused-no Length)
 
-  pub coded-whole : length bytes % 8 ≡ 0
-  unfolding badLength limits
-  coded-whole = eqb-true _ _ (not-false _ (or-false (ltb 4096 (length bytes)) _ (or-false (eqb (length bytes) 0) _ length-fine .1) .1))
-
-  pub coded-short : length bytes ≤ 4096
-  unfolding badLength limits
-  coded-short = ltb-false _ _ (or-false (ltb 4096 (length bytes)) _ (or-false (eqb (length bytes) 0) _ length-fine .1) .0)
-
   pub coded-some : 0 < length bytes
   unfolding badLength limits
   coded-some = let n : length bytes ≡ 0 → ⊥ = eqb-false _ _ (or-false (eqb (length bytes) 0) _ length-fine .0) in omega arith
 
-  pub coded-clean : firstFault limits (records bytes) ≡ length (records bytes)
+  length-limits : (ltb maxBytes (length bytes) || not (eqb (length bytes % 8) 0)) ≡ false
+  unfolding badLength limits
+  length-limits = or-false (eqb (length bytes) 0) _ length-fine .1
+
+  pub coded-short : length bytes ≤ maxBytes
+  coded-short = ltb-false _ _ (or-false (ltb maxBytes (length bytes)) _ length-limits .0)
+
+  pub coded-whole : length bytes % 8 ≡ 0
+  coded-whole = eqb-true _ _ (not-false _ (or-false (ltb maxBytes (length bytes)) _ length-limits .1))
+
+  pub coded-faultless : Faultless bytes
   unfolding grammarAnswer isFault
-  coded-clean =
+  coded-faultless =
       let four = pick-rest (badLength limits bytes) (Refused Length) _ Coded answer (refused-no Length) in
       through (isFault (records bytes)) (length (records bytes)) (pick-test _ _ _ Coded four (refused-no _))
-
--- ---- a record's place
-module _ (g : Grammar) (clean : firstFault limits g ≡ length g) (i : ℕ) (h : i < length g) where
-  -- its limits, behind the two tests of its sequence
-  place-limits : (leb 128 (at g i .production) || ltb 16 (at g i .position)) ≡ false
-  unfolding outOfSequence limits
-  place-limits = or-false (isLeftSide (at g i) && isTerminal (at g i)) _ (or-false (not (inSequence g i)) _ (fine-place g clean i h) .1) .1
-
-  pub production-below : at g i .production < 128
-  production-below = leb-false _ _ (or-false (leb 128 (at g i .production)) _ place-limits .0)
-
-  pub position-below : at g i .position ≤ 16
-  position-below = ltb-false _ _ (or-false (leb 128 (at g i .production)) _ place-limits .1)
-
-  pub in-sequence : inSequence g i ≡ true
-  unfolding outOfSequence limits
-  in-sequence = not-false _ (or-false (not (inSequence g i)) _ (fine-place g clean i h) .0)
-
-  pub left-nonterminal : isLeftSide (at g i) ≡ true → isTerminal (at g i) ≡ false
-  unfolding outOfSequence limits
-  left-nonterminal e =
-      let both : (isLeftSide (at g i) && isTerminal (at g i)) ≡ false = or-false (isLeftSide (at g i) && isTerminal (at g i)) _ (or-false (not (inSequence g i)) _ (fine-place g clean i h) .1) .0 in
-      rw e at both

@@ -1,19 +1,18 @@
--- The laws of the coded grammar's definitions: what the loops of this crate go by.
-use Prim.Native.Nat.{ℕ, zero, suc, _+_, _*_, _/_, _≤_, _<_, max}
+-- What this crate's functions go by: what a record of the bytes holds, what stands behind a dot, where the left sides are.
+use Prim.Native.Nat.{ℕ, zero, suc, _+_, _*_, _/_, _≤_, _<_}
 use mathlib.Core.Path.{_≡_, refl, sym, ap, _∙_}
-use mathlib.Core.List.{List, map}
+use mathlib.Core.List.{List}
 use mathlib.Core.Bool.{Bool, true, false}
 use native.Mathlib.Omega.{arith}
 use native.Mathlib.Nat.{add-assoc}
 use lib.ListN.{length, getD, drop}
 use lib.Seq.{getD-drop}
 use lib.Dec.{eqb}
-use Rattle.base.specs.Lists.{greatest}
-use Rattle.base.proofs.ListLoops.{kept, kept-start, greatest-turn}
+use Rattle.base.proofs.ListLoops.{kept, kept-start}
 use Rattle.rules.proofs.Laws.{length-records, record-past, not-at-end-within}
-use Rattle.rules.specs.Records.{Record, Grammar, recordAt, recordsOf, records, past, at, isTerminal}
-use Rattle.rules.specs.Grammar.{Symbol, nonterminal, terminal, atEnd, atStart, isBefore, leftOf, leftSideOf, leftSides, productionCount, terminalCount, nonterminalCount}
-use Rattle.grammar.specs.Tests.{countNamed, highestNamed}
+use Rattle.rules.specs.Records.{Grammar, recordAt, recordsOf, records, past, at, isTerminal}
+use Rattle.rules.specs.Grammar.{Symbol, nonterminal, terminal, atEnd, atStart, isBefore, leftSides}
+use Rattle.grammar.specs.Asked.{InRange}
 
 -- ---- records
 record-dropped : (n : ℕ) (bytes : List ℕ) (i : ℕ) → recordAt (drop n bytes) i ≡ recordAt bytes (n + i)
@@ -28,7 +27,7 @@ recordsOf-at (suc k) (suc i) bytes h =
     let e : 8 + 8 * i ≡ 8 * suc i = omega arith in
     recordsOf-at k i (drop 8 bytes) (omega arith) ∙ record-dropped 8 bytes (8 * i) ∙ ap (recordAt bytes) e
 
-pub record-at : (bytes : List ℕ) (i : ℕ) → 8 * i + 8 ≤ length bytes → at (records bytes) i ≡ recordAt bytes (8 * i)
+pub record-at : (bytes : List ℕ) (i : ℕ) → InRange i bytes → at (records bytes) i ≡ recordAt bytes (8 * i)
 unfolding records at
 record-at bytes i h = recordsOf-at (length bytes / 8) i bytes (omega arith)
 
@@ -37,7 +36,7 @@ pub past-end : (g : Grammar) (n i : ℕ) → n ≡ length g → n ≤ i + 1 → 
 unfolding atEnd
 past-end g n i e h = let l : length g ≤ i + 1 = omega arith in rw (record-past g (i + 1) l)
 
-pub behind-dot : (bytes : List ℕ) (i : ℕ) → atEnd (records bytes) i ≡ false → 8 * (i + 1) + 8 ≤ length bytes
+pub behind-dot : (bytes : List ℕ) (i : ℕ) → atEnd (records bytes) i ≡ false → InRange (i + 1) bytes
 behind-dot bytes i f = omega (arith, not-at-end-within (records bytes) i f, length-records bytes)
 
 module _ (g : Grammar) (i : ℕ) (b : Bool) (last : b ≡ atEnd g i) where
@@ -57,59 +56,17 @@ module _ (g : Grammar) (i : ℕ) (b : Bool) (last : b ≡ atEnd g i) where
     unfolding isBefore
     before-a-nonterminal a e f = rw (← last, e, ← behind, f)
 
-    pub before-that-nonterminal : (a s : ℕ) → b ≡ false → t ≡ false → s ≡ at g (i + 1) .symbol → eqb s a ≡ isBefore g (nonterminal a) i
+    pub before-that-nonterminal : (a s : ℕ) → b ≡ false → t ≡ false
+        → s ≡ at g (i + 1) .symbol → eqb s a ≡ isBefore g (nonterminal a) i
     unfolding isBefore
     before-that-nonterminal a s e f h = rw (← last, e, ← behind, f, h)
 
-    pub before-that-terminal : (a s : ℕ) → b ≡ false → t ≡ true → s ≡ at g (i + 1) .symbol → eqb s a ≡ isBefore g (terminal a) i
+    pub before-that-terminal : (a s : ℕ) → b ≡ false → t ≡ true
+        → s ≡ at g (i + 1) .symbol → eqb s a ≡ isBefore g (terminal a) i
     unfolding isBefore
     before-that-terminal a s e f h = rw (← last, e, ← behind, f, h)
-
-module _ (g : Grammar) (i p k : ℕ) where
-  pub left-found : (a : ℕ) → p ≡ at g i .production → k ≡ leftSideOf g p → a ≡ at g k .symbol → a ≡ leftOf g (at g i .production)
-  unfolding leftOf
-  left-found a e f h = h ∙ rw (f, e)
-
-  pub left-none : (n : ℕ) → p ≡ at g i .production → k ≡ leftSideOf g p → n ≡ length g → n ≤ k → 0 ≡ leftOf g (at g i .production)
-  unfolding past
-  left-none n e f l h = let r : at g k ≡ past = record-past g k (omega arith) in left-found 0 e f (sym (ap (λ (x : Record). x .symbol) r))
-
--- ---- the highest symbol named
-pub named-turn : (b : Bool) (g : Grammar) (i a t n x h : ℕ) → n ≡ length g → i < n → max a (greatest (map (countNamed b) (drop i g))) ≡ t → x ≡ countNamed b (at g i) → h ≡ max a x → max h (greatest (map (countNamed b) (drop (i + 1) g))) ≡ t
-unfolding at
-named-turn b g = greatest-turn (countNamed b) past g
-
-pub terminals-named : (g : Grammar) (n : ℕ) → n ≡ highestNamed true g → n ≡ terminalCount g
-unfolding highestNamed terminalCount
-terminals-named g n e = e
-
-pub nonterminals-named : (g : Grammar) (n : ℕ) → n ≡ highestNamed false g → n ≡ nonterminalCount g
-unfolding highestNamed nonterminalCount
-nonterminals-named g n e = e
 
 -- ---- the left-side records, of n records
 pub left-sides : (g : Grammar) (n : ℕ) → n ≡ length g → kept (atStart g) n 0 ≡ leftSides g
 unfolding leftSides
 left-sides g n e = kept-start (atStart g) n ∙ rw e
-
-pub productions-start : (g : Grammar) (n : ℕ) → n ≡ length g → 0 + length (kept (atStart g) n 0) ≡ productionCount g
-unfolding productionCount
-productions-start g n e = let l = ap length (left-sides g n e) in omega arith
-
--- ---- one more than the symbol of a record of the kind
-module _ (r : Record) (b t : Bool) (is : b ≡ isTerminal r) where
-  pub named-terminal : (a : ℕ) → b ≡ true → t ≡ true → a ≡ r .symbol → a + 1 ≡ countNamed t r
-  unfolding countNamed
-  named-terminal a e f h = rw (f, ← is, e, h)
-
-  pub named-no-terminal : b ≡ false → t ≡ true → 0 ≡ countNamed t r
-  unfolding countNamed
-  named-no-terminal e f = rw (f, ← is, e)
-
-  pub named-nonterminal : (a : ℕ) → b ≡ false → t ≡ false → a ≡ r .symbol → a + 1 ≡ countNamed t r
-  unfolding countNamed
-  named-nonterminal a e f h = rw (f, ← is, e, h)
-
-  pub named-no-nonterminal : b ≡ true → t ≡ false → 0 ≡ countNamed t r
-  unfolding countNamed
-  named-no-nonterminal e f = rw (f, ← is, e)

@@ -1,27 +1,23 @@
 -- What the helpers of this crate answer, in the words of `rules`.
 use Prim.Native.Nat.{ℕ, _+_}
-use mathlib.Core.Bool.{Bool, true, false, _&&_, _||_}
-use mathlib.Core.List.{map}
-use lib.Dec.{eqb}
+use mathlib.Core.Bool.{Bool, true, false, _||_}
 use Rattle.base.specs.Pick.{pick}
-use Rattle.base.specs.Lists.{greatest}
 use Rattle.rules.specs.Limits.{limits}
-use Rattle.rules.specs.Records.{Record, Grammar, at, isLeftSide, isTerminal, badRecord, outOfSequence}
+use Rattle.rules.specs.Records.{Record, Grammar, at, isTerminal, badRecord, outOfSequence}
+use Rattle.rules.specs.Grammar.{leftSideOf, leftOf}
 
--- record i is the left side of production p
-unfoldable pub beginsProduction : Grammar → ℕ → ℕ → Bool
-unfolding at isLeftSide
-beginsProduction g p i = isLeftSide (at g i) && eqb (at g i .production) p
+-- the left-side record of item i's production, and the nonterminal there
+abbrev pub itemLeftSide : Grammar → ℕ → ℕ
+itemLeftSide g i = leftSideOf g (at g i .production)
+
+abbrev pub itemLeft : Grammar → ℕ → ℕ
+itemLeft g i = leftOf g (at g i .production)
 
 -- one more than the symbol of a record of the kind, and 0 of the other kind: terminals if the test says so, else nonterminals
 unfoldable pub countNamed : Bool → Record → ℕ
 unfolding isTerminal
 countNamed true r = pick (isTerminal r) (r .symbol + 1) 0
 countNamed false r = pick (isTerminal r) 0 (r .symbol + 1)
-
-unfoldable pub highestNamed : Bool → Grammar → ℕ
-unfolding greatest countNamed
-highestNamed terminals g = greatest (map (countNamed terminals) g)
 
 -- record i meets refusal 4 or 5
 unfoldable pub isFault : Grammar → ℕ → Bool

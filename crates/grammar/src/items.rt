@@ -1,15 +1,16 @@
 // The items of the grammar: an item is a record, and the dot stands right behind it.
 ghost use mathlib.Core.Path.{_≡_};
 ghost use mathlib.Core.Bool.{false};
-ghost use Prim.Native.Nat.{_+_, _*_, _≤_, _<_};
-ghost use lib.ListN.{length};
+ghost use Prim.Native.Nat.{_+_, _≤_, _<_};
+ghost use Rattle.rules.specs.Limits.{maxNonterminals};
 ghost use Rattle.rules.specs.Records.{at, records, isTerminal};
-ghost use Rattle.rules.specs.Grammar.{Symbol, atStart, atEnd, isBefore, leftOf, leftSideOf};
-ghost use Rattle.grammar.specs.Tests.{beginsProduction};
+ghost use Rattle.rules.specs.Grammar.{Symbol, atStart, atEnd, isBefore};
+ghost use Rattle.grammar.specs.Asked.{InRange, Faultless};
+ghost use Rattle.grammar.specs.Tests.{itemLeftSide, itemLeft};
 
 // The dot of item i is at the start: record i is a left side.
 pub fn at_start(g: &[u8], i: usize) -> bool
-    requires { ⌜ 8 * i + 8 ≤ length (now g) ⌝ }
+    requires { ⌜ InRange i (now g) ⌝ }
     ensures { λ r. ⌜ r ≡ atStart (records (now (g .entry))) i ⌝ }
 {
     crate::records::position(g, i) == 0
@@ -17,7 +18,7 @@ pub fn at_start(g: &[u8], i: usize) -> bool
 
 // The dot of item i is at the end: no symbol stands behind it. (core/mod.rs: can_reduce)
 pub fn at_end(g: &[u8], i: usize) -> bool
-    requires { ⌜ 8 * i + 8 ≤ length (now g) ⌝ }
+    requires { ⌜ InRange i (now g) ⌝ }
     ensures { λ r. ⌜ r ≡ atEnd (records (now (g .entry))) i ⌝ }
 {
     if crate::records::record_count(g) <= i + 1 {
@@ -37,14 +38,14 @@ pub fn terminal_behind(g: &[u8], i: usize) -> bool
 // The symbol behind the dot of item i. (core/mod.rs: shift_symbol)
 pub fn symbol_behind(g: &[u8], i: usize) -> usize
     requires { ⌜ atEnd (records (now g)) i ≡ false ⌝ }
-    ensures { λ r. ⌜ (r ≡ at (records (now (g .entry))) (i + 1) .symbol) × (r < 65536) ⌝ }
+    ensures { λ r. ⌜ r ≡ at (records (now (g .entry))) (i + 1) .symbol ⌝ }
 {
     crate::records::symbol(g, i + 1)
 }
 
 // Nonterminal a stands directly behind the dot of item i. (core/mod.rs: can_shift_nonterminal)
 pub fn before_nonterminal(g: &[u8], a: usize, i: usize) -> bool
-    requires { ⌜ 8 * i + 8 ≤ length (now g) ⌝ }
+    requires { ⌜ InRange i (now g) ⌝ }
     ensures { λ r. ⌜ r ≡ isBefore (records (now (g .entry))) (Symbol.nonterminal a) i ⌝ }
 {
     if at_end(g, i) {
@@ -58,7 +59,7 @@ pub fn before_nonterminal(g: &[u8], a: usize, i: usize) -> bool
 
 // Terminal t stands directly behind the dot of item i.
 pub fn before_terminal(g: &[u8], t: usize, i: usize) -> bool
-    requires { ⌜ 8 * i + 8 ≤ length (now g) ⌝ }
+    requires { ⌜ InRange i (now g) ⌝ }
     ensures { λ r. ⌜ r ≡ isBefore (records (now (g .entry))) (Symbol.terminal t) i ⌝ }
 {
     if at_end(g, i) {
@@ -70,39 +71,18 @@ pub fn before_terminal(g: &[u8], t: usize, i: usize) -> bool
     false
 }
 
-// Record i is the left side of production p.
-fn begins_production(g: &[u8], p: usize, i: usize) -> bool
-    requires { ⌜ 8 * i + 8 ≤ length (now g) ⌝ }
-    ensures { λ r. ⌜ r ≡ beginsProduction (records (now (g .entry))) p i ⌝ }
+// The left-side record of item i's production: it stands as many records back as the position says.
+pub fn left_record(g: &[u8], i: usize) -> usize
+    requires { ⌜ InRange i (now g) × Faultless (now g) ⌝ }
+    ensures { λ r. ⌜ (r ≡ itemLeftSide (records (now (g .entry))) i) × (r ≤ i) ⌝ }
 {
-    if at_start(g, i) {
-        return crate::records::production(g, i) == p;
-    }
-    false
-}
-
-// The left-side record of production p, or the number of records if there is none.
-pub fn left_side_of(g: &[u8], p: usize) -> usize
-    ensures { λ r. ⌜ r ≡ leftSideOf (records (now (g .entry))) p ⌝ }
-{
-    let n = crate::records::record_count(g);
-    for i in 0..n {
-        if begins_production(g, p, i) {
-            return i;
-        }
-    }
-    n
+    i - crate::records::position(g, i)
 }
 
 // The nonterminal on the left of item i's production.
 pub fn left_of(g: &[u8], i: usize) -> usize
-    requires { ⌜ 8 * i + 8 ≤ length (now g) ⌝ }
-    ensures { λ r. ⌜ (r ≡ leftOf (records (now (g .entry))) (at (records (now (g .entry))) i .production)) × (r < 65536) ⌝ }
+    requires { ⌜ InRange i (now g) × Faultless (now g) ⌝ }
+    ensures { λ r. ⌜ (r ≡ itemLeft (records (now (g .entry))) i) × (r < maxNonterminals) ⌝ }
 {
-    let p = crate::records::production(g, i);
-    let k = left_side_of(g, p);
-    if k < crate::records::record_count(g) {
-        return crate::records::symbol(g, k);
-    }
-    0
+    crate::records::symbol(g, left_record(g, i))
 }

@@ -1,4 +1,3 @@
-// The coded grammar: what stands in its records, its items and its numbers. Which bytes are one says the crate grammar_check.
-pub mod counts;
+// The coded grammar: what stands in its records, and its items. Which bytes are one says the crate grammar_check.
 pub mod items;
 pub mod records;

@@ -14,6 +14,7 @@ use Rattle.rules.specs.declared.GrammarRefusal.{GrammarRefusal}
 use Rattle.rules.specs.declared.GrammarRefusal.the-variants.{Length, StartAgain, NoProduction, NoString}
 use Rattle.rules.specs.declared.GrammarAnswer.{GrammarAnswer}
 use Rattle.rules.specs.declared.GrammarAnswer.the-variants.{Coded, Refused}
+use Rattle.grammar.specs.Asked.{NoFault}
 use Rattle.grammar.specs.Tests.{isFault}
 use Rattle.grammar_check.specs.Tests.{answerFromSix}
 
@@ -38,7 +39,7 @@ module _ (g : Grammar) (n k : ℕ) (size : n ≡ length g) (again : k ≡ firstS
       coded h l x = rw (← again, ← size, le-ltb k n h, ← without, ← named, le-ltb a m l, ← barren, le-ltb b m x)
 
 -- ---- all of it
-pub no-faults : (g : Grammar) (n k : ℕ) → n ≡ length g → k ≡ firstFault limits g → n ≤ k → firstFault limits g ≡ length g
+pub no-faults : (g : Grammar) (n k : ℕ) → n ≡ length g → k ≡ firstFault limits g → n ≤ k → NoFault g
 unfolding firstFault isFault
 no-faults g n k size e h = let l = first-bound (isFault g) (length g) 0 in omega arith
 
@@ -48,7 +49,8 @@ module _ (bytes : List ℕ) (b : Bool) (long : b ≡ badLength limits bytes) whe
   length-refused t = rw (← long, t)
 
   module _ (n k : ℕ) (size : n ≡ length (records bytes)) (fault : k ≡ firstFault limits (records bytes)) where
-    pub record-refused : (f : GrammarRefusal) → b ≡ false → k < n → f ≡ faultAt limits (records bytes) k → Refused f ≡ grammarAnswer limits bytes
+    pub record-refused : (f : GrammarRefusal) → b ≡ false → k < n
+        → f ≡ faultAt limits (records bytes) k → Refused f ≡ grammarAnswer limits bytes
     unfolding grammarAnswer
     record-refused f t h e = rw (← long, t, ← fault, ← size, lt-ltb k n h, ← e)
 

@@ -1,16 +1,19 @@
 -- What a definition made of tests gives on each way through them. The premises are what the code knows on that way.
-use Prim.Native.Nat.{ℕ, _+_, _≤_, _<_}
+use Prim.Native.Nat.{ℕ, _+_, _-_, _≤_, _<_}
 use mathlib.Core.Path.{_≡_}
 use mathlib.Core.Bool.{Bool, true, false, not, or-false}
 use native.Mathlib.Omega.{arith}
+use lib.ListN.{length}
 use lib.Dec.{eqb, leb, ltb}
 use borrow.Author.Tests.{eq-eqb, ne-eqb, lt-ltb, le-ltb, le-leb, lt-leb}
-use Rattle.rules.specs.Limits.{limits}
+use Rattle.base.specs.Loops.{firstFrom}
+use Rattle.base.proofs.Turns.{first-at, first-over}
+use Rattle.rules.specs.Limits.{limits, maxTerminals, maxNonterminals, maxProductions, maxSymbols}
 use Rattle.rules.specs.Records.{Record, Grammar, at, isTerminal, badRecord, comesBehind, inSequence, outOfSequence}
-use Rattle.rules.specs.Tokens.{TokenSet, has}
-use Rattle.rules.specs.Grammar.{atStart, start, namesStart, sideDerives, faultAt}
+use Rattle.rules.specs.Grammar.{atStart, start, namesStart, isLeftSideOf, faultAt}
 use Rattle.rules.specs.declared.GrammarRefusal.the-variants.{BadRecord, OutOfSequence}
-use Rattle.grammar_check.specs.Tests.{terminalLeft, uncollected}
+use Rattle.grammar.specs.Tests.{isFault}
+use Rattle.grammar_check.specs.Tests.{terminalLeft, lacksProduction}
 
 -- ---- refusal 4
 module _ (r : Record) (z : ℕ) (byte : z ≡ r .zeroByte) where
@@ -24,11 +27,11 @@ module _ (r : Record) (z : ℕ) (byte : z ≡ r .zeroByte) where
     bad-kind e h = rw (← byte, eq-eqb z 0 e, ← is, lt-ltb 1 k h)
 
     module _ (a : ℕ) (named : a ≡ r .symbol) where
-      pub bad-terminal : z ≡ 0 → k ≤ 1 → k ≡ 1 → leb 62 a ≡ badRecord limits r
+      pub bad-terminal : z ≡ 0 → k ≤ 1 → k ≡ 1 → leb maxTerminals a ≡ badRecord limits r
       unfolding badRecord limits
       bad-terminal e h f = rw (← byte, eq-eqb z 0 e, ← is, le-ltb 1 k h, eq-eqb k 1 f, named)
 
-      pub bad-nonterminal : z ≡ 0 → k ≤ 1 → (k ≡ 1 → ⊥) → leb 64 a ≡ badRecord limits r
+      pub bad-nonterminal : z ≡ 0 → k ≤ 1 → (k ≡ 1 → ⊥) → leb maxNonterminals a ≡ badRecord limits r
       unfolding badRecord limits
       bad-nonterminal e h n = rw (← byte, eq-eqb z 0 e, ← is, le-ltb 1 k h, ne-eqb k 1 n, named)
 
@@ -58,16 +61,25 @@ module _ (g : Grammar) (i : ℕ) (s : Bool) (follows : s ≡ inSequence g i) whe
     out-left e f = rw (← follows, e, ← left, f)
 
     module _ (p : ℕ) (production : p ≡ at g i .production) where
-      pub out-production : not s ≡ false → t ≡ false → 128 ≤ p → true ≡ outOfSequence limits g i
+      pub out-production : not s ≡ false → t ≡ false → maxProductions ≤ p → true ≡ outOfSequence limits g i
       unfolding outOfSequence limits terminalLeft
-      out-production e f h = rw (← follows, e, ← left, f, ← production, le-leb 128 p h)
+      out-production e f h = rw (← follows, e, ← left, f, ← production, le-leb maxProductions p h)
 
-      pub out-position : (x : ℕ) → not s ≡ false → t ≡ false → p < 128 → x ≡ at g i .position → ltb 16 x ≡ outOfSequence limits g i
+      pub out-position : (x : ℕ) → not s ≡ false → t ≡ false → p < maxProductions
+          → x ≡ at g i .position → ltb maxSymbols x ≡ outOfSequence limits g i
       unfolding outOfSequence limits terminalLeft
-      out-position x e f h z = rw (← follows, e, ← left, f, ← production, lt-leb 128 p h, z)
+      out-position x e f h z = rw (← follows, e, ← left, f, ← production, lt-leb maxProductions p h, z)
 
 -- ---- 4 before 5 within a record
 module _ (g : Grammar) (i : ℕ) (b : Bool) (bad : b ≡ badRecord limits (at g i)) where
+  pub faulty-symbol : b ≡ true → true ≡ isFault g i
+  unfolding isFault
+  faulty-symbol e = rw (← bad, e)
+
+  pub faulty-place : (s : Bool) → b ≡ false → s ≡ outOfSequence limits g i → s ≡ isFault g i
+  unfolding isFault
+  faulty-place s e f = rw (← bad, e, f)
+
   pub fault-four : b ≡ true → BadRecord i ≡ faultAt limits g i
   unfolding faultAt
   fault-four e = rw (← bad, e)
@@ -91,17 +103,27 @@ module _ (g : Grammar) (i : ℕ) where
     unfolding namesStart
     start-named a b n e f h = rw (ne-eqb i 0 n, ← is, e, f, h)
 
--- ---- refusal 8
-module _ (g : Grammar) (found : TokenSet) (i : ℕ) (b : Bool) (left : b ≡ atStart g i) where
-  pub collected-no-left : b ≡ false → false ≡ uncollected g found i
-  unfolding uncollected
-  collected-no-left e = rw (← left, e)
+-- ---- refusal 7
+module _ (g : Grammar) (a i : ℕ) (b : Bool) (left : b ≡ atStart g i) where
+  pub left-side-named : (s : ℕ) → b ≡ true → s ≡ at g i .symbol → eqb s a ≡ isLeftSideOf g a i
+  unfolding isLeftSideOf
+  left-side-named s e f = rw (← left, e, f)
 
-  module _ (d : Bool) (derives : d ≡ sideDerives g found i) where
-    pub collected-no-string : b ≡ true → d ≡ false → false ≡ uncollected g found i
-    unfolding uncollected
-    collected-no-string e f = rw (← left, e, ← derives, f)
+  pub no-left-side : b ≡ false → false ≡ isLeftSideOf g a i
+  unfolding isLeftSideOf
+  no-left-side e = rw (← left, e)
 
-    pub collected-by-set : (a : ℕ) (h : Bool) → b ≡ true → d ≡ true → a ≡ at g i .symbol → h ≡ has found a → not h ≡ uncollected g found i
-    unfolding uncollected
-    collected-by-set a h e f x y = rw (← left, e, ← derives, f, ← x, y)
+-- i is the record at hand and n the number of records
+module _ (g : Grammar) (a n i : ℕ) (size : n ≡ length g)
+    (rest : firstFrom (isLeftSideOf g a) (n - i) i ≡ firstFrom (isLeftSideOf g a) (length g) 0) where
+  pub has-production : (b : Bool) → i < n → b ≡ isLeftSideOf g a i → b ≡ true → false ≡ lacksProduction g a
+  unfolding lacksProduction
+  has-production b h p f =
+      let e : i ≡ firstFrom (isLeftSideOf g a) (length g) 0 = first-at (isLeftSideOf g a) n i _ b h rest p f in
+      rw (← e, ← size, lt-ltb i n h)
+
+  pub has-none : i ≤ n → n ≤ i → true ≡ lacksProduction g a
+  unfolding lacksProduction
+  has-none l h =
+      let e : n ≡ firstFrom (isLeftSideOf g a) (length g) 0 = first-over (isLeftSideOf g a) n i _ l h rest in
+      rw (← e, ← size, le-ltb n n (omega arith))

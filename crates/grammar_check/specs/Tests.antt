@@ -1,12 +1,11 @@
 -- What the helpers of this crate answer, in the words of `rules`.
 use Prim.Native.Nat.{ℕ}
-use mathlib.Core.Bool.{Bool, false, not, _&&_, _||_}
+use mathlib.Core.Bool.{Bool, not, _&&_}
 use lib.ListN.{length}
 use lib.Dec.{ltb}
 use Rattle.base.specs.Pick.{pick}
 use Rattle.rules.specs.Records.{Record, Grammar, at, isLeftSide, isTerminal}
-use Rattle.rules.specs.Tokens.{TokenSet, has}
-use Rattle.rules.specs.Grammar.{atStart, hasProduction, nonterminalCount, sideDerives, collect, firstStart, firstWithout, firstBarren}
+use Rattle.rules.specs.Grammar.{hasProduction, nonterminalCount, firstStart, firstWithout, firstBarren}
 use Rattle.rules.specs.declared.GrammarRefusal.the-variants.{StartAgain, NoProduction, NoString}
 use Rattle.rules.specs.declared.GrammarAnswer.{GrammarAnswer}
 use Rattle.rules.specs.declared.GrammarAnswer.the-variants.{Coded, Refused}
@@ -21,25 +20,6 @@ terminalLeft r = isLeftSide r && isTerminal r
 unfoldable pub lacksProduction : Grammar → ℕ → Bool
 unfolding hasProduction
 lacksProduction g a = not (hasProduction g a)
-
--- ---- refusal 8
--- the production of record i has its left side collected, if its right side derives a string
-unfoldable pub isCollected : Grammar → TokenSet → ℕ → Bool
-unfolding at sideDerives has
-isCollected g found i = not (sideDerives g found i) || has found (at g i .symbol)
-
-unfoldable pub uncollected : Grammar → TokenSet → ℕ → Bool
-unfolding atStart isCollected
-uncollected g found i = pick (atStart g i) (not (isCollected g found i)) false
-
--- one turn of a round over the productions
-unfoldable pub collectAt : Grammar → ℕ → TokenSet → TokenSet
-unfolding atStart collect
-collectAt g i found = pick (atStart g i) (collect g i found) found
-
-unfoldable pub isBarren : TokenSet → ℕ → Bool
-unfolding has
-isBarren found a = not (has found a)
 
 -- ---- refusals 6 to 8 in their order
 unfoldable pub answerFromSix : Grammar → GrammarAnswer

@@ -1,20 +1,19 @@
 // Which bytes are a coded grammar: refusals 3 to 8.
 mod faults;
 mod naming;
-mod productive;
 
 use rules::GrammarAnswer;
 use rules::GrammarRefusal;
 ghost use mathlib.Core.Path.{_≡_};
-ghost use lib.ListN.{length};
 ghost use Rattle.rules.specs.Limits.{limits};
 ghost use Rattle.rules.specs.Records.{records};
-ghost use Rattle.rules.specs.Grammar.{firstFault, grammarAnswer};
+ghost use Rattle.rules.specs.Grammar.{grammarAnswer};
+ghost use Rattle.grammar.specs.Asked.{Faultless};
 ghost use Rattle.grammar_check.specs.Tests.{answerFromSix};
 
 // Refusals 6 to 8, in that order, of bytes that meet none of 3 to 5.
 fn check_symbols(g: &[u8]) -> GrammarAnswer
-    requires { ⌜ firstFault limits (records (now g)) ≡ length (records (now g)) ⌝ }
+    requires { ⌜ Faultless (now g) ⌝ }
     ensures { λ r. ⌜ r ≡ answerFromSix (records (now (g .entry))) ⌝ }
 {
     let again = naming::first_start(g);
@@ -22,7 +21,7 @@ fn check_symbols(g: &[u8]) -> GrammarAnswer
         let production = grammar::records::production(g, again);
         return GrammarAnswer::Refused(GrammarRefusal::StartAgain(production));
     }
-    let m = grammar::counts::nonterminal_count(g);
+    let m = grammar_numbers::counts::nonterminal_count(g);
     let without = naming::first_without(g);
     if without < m {
         return GrammarAnswer::Refused(GrammarRefusal::NoProduction(without));

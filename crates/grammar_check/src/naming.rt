@@ -1,16 +1,13 @@
 // Refusals 6 and 7: the start is named again, and a nonterminal has no production.
 ghost use mathlib.Core.Path.{_≡_};
-ghost use mathlib.Core.Bool.{not};
-ghost use Prim.Native.Nat.{_+_, _*_, _≤_, _<_};
-ghost use lib.ListN.{length};
-ghost use Rattle.base.specs.Loops.{firstFrom};
 ghost use Rattle.rules.specs.Records.{records};
 ghost use Rattle.rules.specs.Grammar.{namesStart, firstStart, isLeftSideOf, firstWithout};
+ghost use Rattle.grammar.specs.Asked.{InRange};
 ghost use Rattle.grammar_check.specs.Tests.{lacksProduction};
 
 // Record i, not the first, names the start.
 fn names_start(g: &[u8], i: usize) -> bool
-    requires { ⌜ 8 * i + 8 ≤ length (now g) ⌝ }
+    requires { ⌜ InRange i (now g) ⌝ }
     ensures { λ r. ⌜ r ≡ namesStart (records (now (g .entry))) i ⌝ }
 {
     if i == 0 {
@@ -19,7 +16,7 @@ fn names_start(g: &[u8], i: usize) -> bool
     if grammar::records::is_terminal(g, i) {
         return false;
     }
-    grammar::records::symbol(g, i) == grammar::counts::start(g)
+    grammar::records::symbol(g, i) == grammar_numbers::counts::start(g)
 }
 
 // Refusal 6: the first record behind the first that names the start, or the number of records if none does.
@@ -37,7 +34,7 @@ pub fn first_start(g: &[u8]) -> usize
 
 // Record i is a left side that names nonterminal a.
 fn is_left_side_of(g: &[u8], a: usize, i: usize) -> bool
-    requires { ⌜ 8 * i + 8 ≤ length (now g) ⌝ }
+    requires { ⌜ InRange i (now g) ⌝ }
     ensures { λ r. ⌜ r ≡ isLeftSideOf (records (now (g .entry))) a i ⌝ }
 {
     if grammar::items::at_start(g, i) {
@@ -46,31 +43,24 @@ fn is_left_side_of(g: &[u8], a: usize, i: usize) -> bool
     false
 }
 
-// The first left-side record that names nonterminal a, or the number of records if none does.
-fn first_left_side(g: &[u8], a: usize) -> usize
-    ensures { λ r. ⌜ r ≡ firstFrom (isLeftSideOf (records (now (g .entry))) a) (length (records (now (g .entry)))) 0 ⌝ }
-{
-    let n = grammar::records::record_count(g);
-    for i in 0..n {
-        if is_left_side_of(g, a, i) {
-            return i;
-        }
-    }
-    n
-}
-
 // Nonterminal a has no production.
 fn lacks_production(g: &[u8], a: usize) -> bool
     ensures { λ r. ⌜ r ≡ lacksProduction (records (now (g .entry))) a ⌝ }
 {
-    grammar::records::record_count(g) <= first_left_side(g, a)
+    let n = grammar::records::record_count(g);
+    for i in 0..n {
+        if is_left_side_of(g, a, i) {
+            return false;
+        }
+    }
+    true
 }
 
 // Refusal 7: the lowest nonterminal below m that has no production, or m if each has one.
 pub fn first_without(g: &[u8]) -> usize
     ensures { λ r. ⌜ r ≡ firstWithout (records (now (g .entry))) ⌝ }
 {
-    let m = grammar::counts::nonterminal_count(g);
+    let m = grammar_numbers::counts::nonterminal_count(g);
     for a in 0..m {
         if lacks_production(g, a) {
             return a;

@@ -10,9 +10,10 @@ use lib.Seq.{getD-set-same, getD-set-other}
 use lib.Dec.{eqb}
 use borrow.Author.Tests.{eq-eqb, ne-eqb}
 use Rattle.base.specs.Pick.{pick}
+use Rattle.rules.specs.Limits.{maxStates}
 use Rattle.rules.specs.Tokens.{single, join}
 use Rattle.room.specs.Areas.{Room, putOrigin, putHead}
-use Rattle.room.specs.Bounds.{maxStates, maxItems, visitedWords, successorWords, walkedWords}
+use Rattle.room.specs.Bounds.{maxItems, visitedWords, successorWords, walkedWords}
 use Rattle.room.proofs.Lengths.{Lengths}
 use Rattle.words.specs.Bits.{wordBits, bitsIn}
 use Rattle.words.proofs.Bits.{bits-same, bits-none, bits-put}

@@ -3,9 +3,10 @@ use Prim.Native.Nat.{ℕ, _+_, _*_, _/_, _%_, _<_}
 use mathlib.Core.Path.{_≡_, sym, ap, _∙_}
 use mathlib.Core.Bool.{Bool}
 use lib.ListN.{getD}
+use Rattle.rules.specs.Limits.{maxStates}
 use Rattle.rules.specs.Tokens.{has}
 use Rattle.room.specs.Areas.{Room}
-use Rattle.room.specs.Bounds.{maxStates, maxItems, visitedWords, successorWords}
+use Rattle.room.specs.Bounds.{maxItems, visitedWords, successorWords}
 use Rattle.words.specs.Bits.{wordBits, bitsIn}
 use Rattle.words.proofs.Bits.{bits-has}
 use Rattle.marks.specs.Marks.{successorsIn, visitedIn, walkedIn, linksIn, linkWord}

@@ -5,9 +5,10 @@ use mathlib.Core.List.{List}
 use lib.ListN.{getD, set}
 use lib.Dec.{eqb}
 use Rattle.base.specs.Pick.{pick}
+use Rattle.rules.specs.Limits.{maxStates}
 use Rattle.rules.specs.Tokens.{TokenSet, single, join}
 use Rattle.room.specs.Areas.{Room, withVisited, withSuccessors, withWalked, putVisited, putSuccessors, putOrigin, putHead, putWalked}
-use Rattle.room.specs.Bounds.{maxStates, maxItems, visitedWords, successorWords, walkedWords}
+use Rattle.room.specs.Bounds.{maxItems, visitedWords, successorWords, walkedWords}
 use Rattle.words.specs.Bits.{wordBits, bitsIn}
 
 -- ---- the sets

@@ -11,10 +11,9 @@ use borrow.Author.Tests.{leb-true}
 use Rattle.base.specs.Part.{part}
 use Rattle.base.specs.Fill.{filled, zeros}
 use Rattle.base.proofs.Fills.{length-zeros, filled-turn}
-use Rattle.rules.specs.Limits.{limits}
+use Rattle.rules.specs.Limits.{limits, workSize}
 use Rattle.rules.specs.Rooms.{cleared}
 use Rattle.room.specs.Areas.{view, blank}
-use Rattle.room.specs.Bounds.{workSize}
 use Rattle.room.proofs.Same.{same-room}
 
 filled-is-zeros : (n : ℕ) (d : List ℕ) → filled n 0 d ≡ zeros n ++ drop n d

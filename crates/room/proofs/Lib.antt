@@ -1,5 +1,4 @@
 pub mod Apart
-pub mod Bounds
 pub mod Cells
 pub mod Clearing
 pub mod Lengths

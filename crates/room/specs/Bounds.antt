@@ -3,29 +3,21 @@
 use Prim.Native.Nat.{ℕ, _≤_, _<_}
 use mathlib.Core.List.{List}
 use lib.ListN.{length}
+use Rattle.rules.specs.Limits.{maxTerminals, maxNonterminals, maxStates, maxEntries, maxColumns, workSize}
 use Rattle.rules.specs.declared.StateIndex.{StateIndex}
 use Rattle.rules.specs.declared.ConflictIndex.{ConflictIndex}
 
 -- ---- the room
-abbrev pub workSize : ℕ
-workSize = 8192
-
 abbrev pub LongEnough : List ℕ → Type 0
 LongEnough work = workSize ≤ length work
 
 -- ---- what a number of the room speaks of
-abbrev pub maxStates : ℕ
-maxStates = 128
-
 abbrev pub IsState : StateIndex → Type 0
 IsState state = state .0 < maxStates
 
 -- behind the last state stands the end of the entries
 abbrev pub IsStateOrEnd : StateIndex → Type 0
 IsStateOrEnd state = state .0 ≤ maxStates
-
-abbrev pub maxEntries : ℕ
-maxEntries = 2048
 
 abbrev pub IsEntry : ℕ → Type 0
 IsEntry entry = entry < maxEntries
@@ -37,21 +29,11 @@ maxItems = 512
 abbrev pub IsItem : ℕ → Type 0
 IsItem item = item < maxItems
 
--- the actions traced at a state, each in its column of the lane table
-abbrev pub maxColumns : ℕ
-maxColumns = 16
-
 abbrev pub IsColumn : ConflictIndex → Type 0
 IsColumn column = column .0 < maxColumns
 
-abbrev pub maxNonterminals : ℕ
-maxNonterminals = 64
-
 abbrev pub IsNonterminal : ℕ → Type 0
 IsNonterminal a = a < maxNonterminals
-
-abbrev pub maxTerminals : ℕ
-maxTerminals = 62
 
 -- how many terminals a grammar has
 abbrev pub FewTerminals : ℕ → Type 0

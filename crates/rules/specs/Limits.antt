@@ -17,5 +17,45 @@ pub record Limits : Type 0 where
   -- numbers of the work room that the builder takes
   pub work : ℕ
 
+-- ---- document 01's values, by name
+abbrev pub maxTerminals : ℕ
+maxTerminals = 62
+
+abbrev pub maxNonterminals : ℕ
+maxNonterminals = 64
+
+abbrev pub maxProductions : ℕ
+maxProductions = 128
+
+abbrev pub maxSymbols : ℕ
+maxSymbols = 16
+
+abbrev pub maxBytes : ℕ
+maxBytes = 4096
+
+abbrev pub maxStates : ℕ
+maxStates = 128
+
+-- a closed item is an entry of its state
+abbrev pub maxEntries : ℕ
+maxEntries = 2048
+
+-- an action has its column of the lane table
+abbrev pub maxColumns : ℕ
+maxColumns = 16
+
+abbrev pub workSize : ℕ
+workSize = 8192
+
 unfoldable pub limits : Limits
-limits = record { terminals = 62; nonterminals = 64; productions = 128; symbols = 16; bytes = 4096; states = 128; items = 2048; actions = 16; work = 8192 }
+limits = record {
+  terminals = maxTerminals;
+  nonterminals = maxNonterminals;
+  productions = maxProductions;
+  symbols = maxSymbols;
+  bytes = maxBytes;
+  states = maxStates;
+  items = maxEntries;
+  actions = maxColumns;
+  work = workSize;
+}
