@@ -21,13 +21,13 @@ use Rattle.rules.specs.Merge.{Merge, walk, mergeBegun, merged, mergeRows, resol
 use Rattle.rules.specs.Run.{Table, Standing, answered, runFrom, run}
 use Rattle.rules.specs.declared.BuildRefusal.the-variants.{Conflicts}
 use Rattle.rules.specs.declared.RunEnd.the-variants.{StackFull}
-use Rattle.fuel.proofs.Outcomes.{holds-also, same-in-turn}
-use Rattle.fuel.proofs.Recorded.{AllRecorded, traces-recorded}
+use Rattle.walks.proofs.Outcomes.{holds-also, same-in-turn}
+use Rattle.traces.specs.Recorded.{AllRecorded}
 use Rattle.fuel.proofs.Run.{run-fuel}
 use Rattle.fuel.proofs.States.{expand-fuel}
-use Rattle.fuel.proofs.Trace.{unShift-fuel, unClose-fuel}
+use Rattle.traces.proofs.Trace.{unShift-fuel, unClose-fuel}
 use Rattle.fuel.proofs.Visits.{Few, resolve-fuel}
-use Rattle.fuel.proofs.Walk.{Fits, walk-further, walk-fuel}
+use Rattle.walks.proofs.Walk.{Fits, walk-keeps-walked, walk-fuel}
 
 -- one more is the next
 one-more : (k : ℕ) → k + 1 ≡ suc k
@@ -74,9 +74,9 @@ module _ (l : Limits) (g : Grammar) where
   unfolding mergeRows mergeBegun
   walks-enough states s actions table rows few larger h =
       ap (λ (o : Outcome Merge). pick (rowsDisjoint table) (merged table actions s o) (refused (Conflicts (conflictCount g states))))
-      (same-in-turn (Fits l g table rows) (walk l g table (l .states + 1)) (walk l g table (suc larger)) (beachheads table)
+      (same-in-turn (Fits l) (walk l g table (l .states + 1)) (walk l g table (suc larger)) (beachheads table)
       (λ t among m k. ap (λ (f : ℕ). walk l g table f t m) (one-more (l .states)) ∙ sym (walk-fuel l g table rows (l .states) larger t m h (omega (arith, beachhead-row table t among)) k (omega arith)))
-      (λ t among m k. holds-also _ (Fits l g table rows) (λ m′ p. p .0) (walk l g table (suc larger) t m) (walk-further l g table rows 0 (suc larger) t m (k, omega arith)))
+      (λ t among m k. holds-also _ (Fits l) (λ m′ p. p .0) (walk l g table (suc larger) t m) (walk-keeps-walked l g table rows 0 (suc larger) t m (k, omega arith)))
       (mergeBegun states) few)
 
 -- ---- a trace
@@ -98,7 +98,7 @@ module _ (g : Grammar) (sets : Sets) (states : List State) (recorded : AllRecord
       by-dot : (b : Bool) → traced (pairs + 1) b .table ≡ traced (suc larger) b .table
       by-dot true =
           ap (λ (f : ℕ). unClose g sets states f c s i begun .table) (one-more pairs)
-          ∙ ap (λ (t : Trace). t .table) (sym (unClose-fuel g sets states c (traces-recorded g states recorded) larger s i begun h within item (length-replicate (length states) 0)))
+          ∙ ap (λ (t : Trace). t .table) (sym (unClose-fuel g sets states c recorded larger s i begun h within item (length-replicate (length states) 0)))
       by-dot false =
           ap (λ (f : ℕ). unShift g sets states f c s i begun .table) (one-more pairs)
-          ∙ ap (λ (t : Trace). t .table) (sym (unShift-fuel g sets states c (traces-recorded g states recorded) larger s i begun h within item (length-replicate (length states) 0)))
+          ∙ ap (λ (t : Trace). t .table) (sym (unShift-fuel g sets states c recorded larger s i begun h within item (length-replicate (length states) 0)))
