@@ -3,3 +3,4 @@ pub mod Outcomes
 pub mod Recorded
 pub mod Resolve
 pub mod Walk
+pub mod Whole
