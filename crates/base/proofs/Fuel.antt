@@ -8,25 +8,25 @@ use Rattle.base.specs.Turn.{Turn, again, over, after, OnTurn}
 module _ {A B : Type 0} (go : ℕ → A → B) (turn : A → Turn A B) (goes : (fuel : ℕ) (a : A) → go (suc fuel) a ≡ after (go fuel) (turn a))
     (Inv : ℕ → A → Type 0) (Q : B → Type 0) (turns : (fuel : ℕ) (a : A) → Inv (suc fuel) a → OnTurn (Inv fuel) Q (turn a)) where
   -- an invariant that may speak of the fuel left
-  pub turns-keep : ((a : A) → Inv zero a → Q (go zero a)) → (fuel : ℕ) (a : A) → Inv fuel a → Q (go fuel a)
-  turns-keep stops zero a i = stops a i
-  turns-keep stops (suc fuel) a i = rw (goes fuel a) (by-turn (turn a) (turns fuel a i) (turns-keep stops fuel))
+  pub fuel-keeps : ((a : A) → Inv zero a → Q (go zero a)) → (fuel : ℕ) (a : A) → Inv fuel a → Q (go fuel a)
+  fuel-keeps stops zero a i = stops a i
+  fuel-keeps stops (suc fuel) a i = rw (goes fuel a) (by-turn (turn a) (turns fuel a i) (fuel-keeps stops fuel))
     where
       by-turn : (t : Turn A B) → OnTurn (Inv fuel) Q t → ((a : A) → Inv fuel a → Q (go fuel a)) → Q (after (go fuel) t)
       by-turn (again a′) i more = more a′ i
       by-turn (over b) q more = q
 
   -- no turn goes on when the last fuel is taken: so any larger fuel gives the same
-  pub turns-enough : ((a : A) → Inv zero a → OnTurn (λ _. ⊥) Q (turn a)) → (fuel larger : ℕ) (a : A) → fuel ≤ larger → Inv fuel a
+  pub fuel-enough : ((a : A) → Inv zero a → OnTurn (λ _. ⊥) Q (turn a)) → (fuel larger : ℕ) (a : A) → fuel ≤ larger → Inv fuel a
       → go (suc larger) a ≡ go (suc fuel) a
-  turns-enough last zero larger a f i = goes larger a ∙ by-turn (turn a) (last a i) ∙ sym (goes zero a)
+  fuel-enough last zero larger a f i = goes larger a ∙ by-turn (turn a) (last a i) ∙ sym (goes zero a)
     where
       by-turn : (t : Turn A B) → OnTurn (λ _. ⊥) Q t → after (go larger) t ≡ after (go zero) t
       by-turn (again a′) i = absurd i
       by-turn (over b) q = refl
-  turns-enough last (suc fuel) zero a f i = absurd (omega arith)
-  turns-enough last (suc fuel) (suc larger) a f i =
-      goes (suc larger) a ∙ by-turn (turn a) (turns fuel a i) (turns-enough last fuel larger) ∙ sym (goes (suc fuel) a)
+  fuel-enough last (suc fuel) zero a f i = absurd (omega arith)
+  fuel-enough last (suc fuel) (suc larger) a f i =
+      goes (suc larger) a ∙ by-turn (turn a) (turns fuel a i) (fuel-enough last fuel larger) ∙ sym (goes (suc fuel) a)
     where
       by-turn : (t : Turn A B) → OnTurn (Inv fuel) Q t → ((a : A) → fuel ≤ larger → Inv fuel a → go (suc larger) a ≡ go (suc fuel) a)
           → after (go (suc larger)) t ≡ after (go (suc fuel)) t

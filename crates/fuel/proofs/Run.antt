@@ -10,7 +10,7 @@ use lib.Dec.{eqb, leb}
 use borrow.Author.Tests.{leb-false}
 use Rattle.base.specs.Pick.{pick}
 use Rattle.base.specs.Turn.{Turn, again, over, after, OnTurn}
-use Rattle.base.proofs.Fuel.{turns-enough}
+use Rattle.base.proofs.Fuel.{fuel-enough}
 use Rattle.rules.specs.Records.{Grammar}
 use Rattle.rules.specs.Grammar.{leftOf}
 use Rattle.rules.specs.Run.{Act, shift, reduce, noAct, Table, Standing, Moved, goes, ends, RunResult, shifted, reduced, listFull, stackFull, sideLength, tokenAt, stateUnder, moveShift, moveGoto, moveEnd, moveReduce, moveBy, move, answered, runFrom}
@@ -105,4 +105,4 @@ module _ {S : Type 0} (table : Table S) (g : Grammar) (tokens : List ℕ) (limit
   -- with fuel for one move more than the limit leaves, any larger fuel gives the same
   pub run-fuel : (fuel larger : ℕ) (s : Standing S) → fuel ≤ larger → limit ≤ s .steps + fuel
       → runFrom table g tokens limit (suc larger) s ≡ runFrom table g tokens limit (suc fuel) s
-  run-fuel = turns-enough (runFrom table g tokens limit) move-turn run-goes Left (λ _. Unit {0}) move-left move-last
+  run-fuel = fuel-enough (runFrom table g tokens limit) move-turn run-goes Left (λ _. Unit {0}) move-left move-last

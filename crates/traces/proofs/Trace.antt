@@ -107,12 +107,9 @@ module _ (g : Grammar) (sets : Sets) (states : List State) (c : ℕ) where
     pub entering : (s : ℕ) (tokens : TokenSet) (trace : Trace) → P trace → P (onTable (enter s c tokens) trace)
 
   module _ (P : Trace → Type 0) (kept : Kept P) where
-    abbrev pub Keeps : (ℕ → ℕ → Trace → Trace) → Type 0
-    Keeps go = (s i : ℕ) (trace : Trace) → s < length states → P trace → P (go s i trace)
-
     pub record BothKeep (fuel : ℕ) : Type 0 where
-      pub shifting : Keeps (unShift g sets states fuel c)
-      pub closing : Keeps (unClose g sets states fuel c)
+      pub shifting : (s i : ℕ) (trace : Trace) → s < length states → P trace → P (unShift g sets states fuel c s i trace)
+      pub closing : (s i : ℕ) (trace : Trace) → s < length states → P trace → P (unClose g sets states fuel c s i trace)
 
     start-keeps : (s i : ℕ) (trace : Trace) → P trace → P (enterStart g s c i trace)
     unfolding enterStart

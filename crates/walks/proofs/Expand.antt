@@ -10,7 +10,7 @@ use borrow.Author.Tests.{ltb-true, ltb-false}
 use Rattle.base.specs.Among.{All}
 use Rattle.base.specs.Lists.{isEmpty, placeOf}
 use Rattle.base.specs.Turn.{Turn, after, OnTurn}
-use Rattle.base.proofs.Fuel.{turns-keep}
+use Rattle.base.proofs.Fuel.{fuel-keeps}
 use Rattle.base.proofs.Lists.{among-none, among-cons}
 use Rattle.base.proofs.Members.{all-at, all-added}
 use Rattle.rules.specs.Limits.{Limits}
@@ -40,7 +40,7 @@ module _ (l : Limits) (g : Grammar) (follow : Follow) where
 
     pub expand-keeps : ((c : Collection) → Inv zero c → P (c .states)) → (fuel : ℕ) (c : Collection) → Inv fuel c → Holds P (expandAll l g follow fuel c)
     unfolding expandAll
-    expand-keeps stopping = turns-keep (expandAll l g follow) expand-turn expand-goes Inv (Holds P) expand-turns stopping
+    expand-keeps stopping = fuel-keeps (expandAll l g follow) expand-turn expand-goes Inv (Holds P) expand-turns stopping
 
   -- ---- what holds of every state
   module _ (P : State → Type 0) (none : P []) (closing : (kernel : State) → P kernel → P (closure g follow kernel))

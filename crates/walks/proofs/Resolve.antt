@@ -7,7 +7,7 @@ use lib.Dec.{ltb}
 use borrow.Author.Tests.{ltb-true, ltb-false}
 use Rattle.base.specs.Lists.{isEmpty}
 use Rattle.base.specs.Turn.{Turn, after, OnTurn}
-use Rattle.base.proofs.Fuel.{turns-keep}
+use Rattle.base.proofs.Fuel.{fuel-keeps}
 use Rattle.base.proofs.Lists.{fold-keeps}
 use Rattle.rules.specs.Limits.{Limits}
 use Rattle.rules.specs.Records.{Grammar}
@@ -87,7 +87,7 @@ module _ (l : Limits) (g : Grammar) (sets : Sets) where
     pub visits-keep : ((s : ℕ) (states : List State) → Inv zero s states → P states) → (fuel s : ℕ) (states : List State) → Inv fuel s states → Holds P (resolveFrom l g sets fuel s states)
     unfolding resolveFrom
     visits-keep stopping fuel s states =
-        turns-keep visits visit-turn visit-goes (λ fuel at. Inv fuel (at .0) (at .1)) (Holds P) visit-turns (λ at. stopping (at .0) (at .1)) fuel (s, states)
+        fuel-keeps visits visit-turn visit-goes (λ fuel at. Inv fuel (at .0) (at .1)) (Holds P) visit-turns (λ at. stopping (at .0) (at .1)) fuel (s, states)
 
 -- so lane mode keeps what the LR(0) states have
 module _ (l : Limits) (g : Grammar) (P : List State → Type 0)
