@@ -3,13 +3,14 @@ use Prim.Native.Nat.{ℕ, suc, _+_, _*_, _<_}
 use mathlib.Core.Path.{_≡_, _∙_}
 use mathlib.Core.Bool.{Bool, true, false}
 use mathlib.Core.List.{List, [], _∷_}
-use lib.ListN.{length, length-set, length-replicate, replicate}
+use lib.ListN.{length, length-set, length-replicate}
 use Rattle.rules.specs.Records.{Grammar}
 use Rattle.rules.specs.Tokens.{TokenSet, single}
 use Rattle.rules.specs.Grammar.{atStart}
 use Rattle.rules.specs.First.{Sets}
 use Rattle.rules.specs.States.{State}
 use Rattle.rules.specs.Lanes.{Action, shift, reduce, LaneTable, Trace, visit, addSuccessor, enter, unShift, unClose, traceAction, traceActions, laneTable}
+use Rattle.traces.specs.Whole.{traceBegun}
 use Rattle.traces.proofs.Trace.{Kept, both-keep}
 
 enter-length : (s c : ℕ) (tokens : TokenSet) (table : LaneTable) → length (enter s c tokens table) ≡ length table
@@ -41,7 +42,7 @@ module _ (g : Grammar) (sets : Sets) (states : List State) (s : ℕ) (within : s
       fuel = length states * length g + 1
 
       begun : Trace
-      begun = record { table = enter s c 0 table; visited = replicate (length states) 0 }
+      begun = traceBegun g sets states s c i table
 
       rows : Rows begun
       rows = enter-length s c 0 table ∙ h

@@ -5,15 +5,15 @@ use mathlib.Core.Bool.{Bool, true, false}
 use mathlib.Core.List.{List}
 use native.Mathlib.Omega.{arith}
 use native.Mathlib.Numerals.{add-one}
-use lib.ListN.{length, replicate}
+use lib.ListN.{length}
 use Rattle.base.specs.Lists.{foldOver}
 use Rattle.rules.specs.Records.{Grammar, at}
-use Rattle.rules.specs.Grammar.{symbolOf, atStart}
+use Rattle.rules.specs.Grammar.{symbolOf}
 use Rattle.rules.specs.First.{Sets}
 use Rattle.rules.specs.States.{State}
-use Rattle.rules.specs.Lanes.{LaneTable, reduce, Trace, wasVisited, visit, enter, predecessors, itemsBefore, enterStart, unShift, unClose, traceAction}
+use Rattle.rules.specs.Lanes.{LaneTable, reduce, Trace, wasVisited, visit, predecessors, itemsBefore, enterStart, unShift, unClose, traceAction}
 use Rattle.traces.specs.Recorded.{AllRecorded}
-use Rattle.traces.specs.Whole.{unShifted, unClosed, goneBack, overPredecessor, overItem}
+use Rattle.traces.specs.Whole.{unShifted, unClosed, goneBack, overPredecessor, overItem, traceBegun, tracedBy}
 use Rattle.traces.proofs.Trace.{un-shifted, un-closed, unShift-fuel, unClose-fuel}
 
 module _ (g : Grammar) (sets : Sets) (states : List State) (c s i : ℕ) (trace : Trace) where
@@ -52,14 +52,7 @@ module _ (g : Grammar) (sets : Sets) (states : List State) (c s i : ℕ) (trace 
     close-goes e = sym (unClose-fuel g sets states c recorded (suc pairs) s i trace (omega arith) within item sized) ∙ close-again e
 
 -- ---- the trace of a reduction
-module _ (g : Grammar) (sets : Sets) (states : List State) (s c i : ℕ) (table : LaneTable) where
-  abbrev pub begun : Trace
-  begun = record { table = enter s c 0 table; visited = replicate (length states) 0 }
-
-  -- back from item i by that fuel
-  abbrev pub goneBackBy : ℕ → Trace
-  goneBackBy fuel = elim (atStart g i) [ true ↦ unClose g sets states fuel c s i begun | false ↦ unShift g sets states fuel c s i begun ]
-
-  pub action-goes : traceAction g sets states s c (reduce i) table ≡ goneBack g sets states c s i begun .table
-  unfolding traceAction goneBack unClosed unShifted
-  action-goes = ap (λ (fuel : ℕ). goneBackBy fuel .table) (add-one (length states * length g))
+pub action-goes : (g : Grammar) (sets : Sets) (states : List State) (s c i : ℕ) (table : LaneTable)
+    → traceAction g sets states s c (reduce i) table ≡ goneBack g sets states c s i (traceBegun g sets states s c i table) .table
+unfolding traceAction goneBack unClosed unShifted
+action-goes g sets states s c i table = ap (λ (fuel : ℕ). tracedBy g sets states s c i table fuel .table) (add-one (length states * length g))

@@ -3,12 +3,12 @@
 use Prim.Native.Nat.{ℕ, suc, _-_, _*_}
 use mathlib.Core.Bool.{true, false}
 use mathlib.Core.List.{List}
-use lib.ListN.{length}
+use lib.ListN.{length, replicate}
 use Rattle.rules.specs.Records.{Grammar}
 use Rattle.rules.specs.Grammar.{atStart}
 use Rattle.rules.specs.First.{Sets}
 use Rattle.rules.specs.States.{State}
-use Rattle.rules.specs.Lanes.{Trace, onTable, addSuccessor, enter, tokensPast, emptyPast, unShift, unClose}
+use Rattle.rules.specs.Lanes.{LaneTable, Trace, onTable, addSuccessor, enter, tokensPast, emptyPast, unShift, unClose}
 
 module _ (g : Grammar) (sets : Sets) (states : List State) (c : ℕ) where
   -- the dot of item i is past 0; it is 0
@@ -34,3 +34,11 @@ module _ (g : Grammar) (sets : Sets) (states : List State) (c : ℕ) where
     | true ↦ goneBack s j (onTable (enter s c (tokensPast g sets j)) trace)
     | false ↦ onTable (enter s c (tokensPast g sets j)) trace
   ]
+
+-- ---- the trace of the reduction by item i, which begins with an empty set entered, by that fuel
+module _ (g : Grammar) (sets : Sets) (states : List State) (s c i : ℕ) (table : LaneTable) where
+  abbrev pub traceBegun : Trace
+  traceBegun = record { table = enter s c 0 table; visited = replicate (length states) 0 }
+
+  abbrev pub tracedBy : ℕ → Trace
+  tracedBy fuel = elim (atStart g i) [ true ↦ unClose g sets states fuel c s i traceBegun | false ↦ unShift g sets states fuel c s i traceBegun ]
