@@ -1,6 +1,6 @@
 -- Recursions by fuel, turn by turn: what every turn keeps, and when a larger fuel gives the same.
 use Prim.Native.Nat.{ℕ, zero, suc, _≤_}
-use mathlib.Core.Path.{_≡_, refl, sym, ap, _∙_}
+use mathlib.Core.Path.{_≡_, refl, sym, _∙_}
 use native.Mathlib.Omega.{arith}
 use Rattle.base.specs.Turn.{Turn, again, over, after, OnTurn}
 

@@ -17,11 +17,11 @@ use Rattle.rules.specs.Records.{Grammar, at, records}
 use Rattle.rules.specs.Tokens.{TokenSet, has, eof, all}
 use Rattle.rules.specs.Grammar.{atStart, leftSides, terminalCount, nonterminalCount, sideDerives, collect, allCollected, productive, grammarAnswer}
 use Rattle.rules.specs.First.{first1, addFirst, firstSettled, firstSets}
-use Rattle.rules.specs.States.{State, Outcome, done, refused, eachInTurn, Follow, closeKernel, closeLeftSides, closureSettled, closureSets, Collection, expandAll, statesFrom, itemCount, conflictCount}
-use Rattle.rules.specs.Lanes.{Action, reduce, actionsAt, LaneTable, Trace, unShift, unClose, traceAction, laneTable, rowsDisjoint, beachheads}
-use Rattle.rules.specs.Merge.{Merge, walk, mergeBegun, merged, mergeRows, resolveFrom, resolveAll}
+use Rattle.rules.specs.States.{State, Outcome, done, refused, Follow, closeKernel, closeLeftSides, closureSettled, closureSets, Collection, statesFrom, itemCount, conflictCount}
+use Rattle.rules.specs.Lanes.{Action, reduce, LaneTable, Trace, unShift, unClose, traceAction, laneTable, rowsDisjoint, beachheads}
+use Rattle.rules.specs.Merge.{Merge, walk, mergeBegun, merged, mergeRows, resolveAll}
 use Rattle.rules.specs.FinalCheck.{leastSettled, leastRound, leastBegun, leastSets}
-use Rattle.rules.specs.Run.{Table, Standing, answered, runFrom, run}
+use Rattle.rules.specs.Run.{Table, Standing, answered, run}
 use Rattle.rules.specs.declared.GrammarAnswer.the-variants.{Coded}
 use Rattle.rules.specs.declared.BuildRefusal.the-variants.{Conflicts}
 use Rattle.rules.specs.declared.RunEnd.the-variants.{StackFull}
@@ -38,7 +38,7 @@ use Rattle.traces.specs.Whole.{traceBegun}
 use Rattle.walks.proofs.Outcomes.{holds-also, same-in-turn}
 use Rattle.walks.proofs.Walk.{Fits, WalkedAtLeast, walk-keeps-walked, walk-fuel}
 use Rattle.fuel.specs.Calls.{productiveBy, firstSetsBy, closureSetsBy, leastSetsBy, statesBy, visitsBy, mergeRowsBy, traceBy, runBy}
-use Rattle.fuel.specs.OnTheWay.{begun, CollectionMet, StatesMet}
+use Rattle.fuel.specs.OnTheWay.{begun, CollectionMet}
 use Rattle.fuel.specs.Enough.{EnoughFrom, Enough}
 use Rattle.fuel.proofs.Least.{least-settled}
 use Rattle.fuel.proofs.OnTheWay.{next-narrow, met-few, met-recorded, action-recorded}

@@ -1,9 +1,9 @@
 -- What the construction meets is within the limit, its items are records of the grammar, and its sets have no token over n.
-use Prim.Native.Nat.{ℕ, _+_, _^_, _<_, _≤_}
-use mathlib.Core.Path.{_≡_, ap, _∙_}
+use Prim.Native.Nat.{ℕ, _+_, _^_, _<_}
+use mathlib.Core.Path.{_≡_}
 use mathlib.Core.Logic.{⊎-elim}
-use mathlib.Core.Bool.{Bool, true, false, not}
-use mathlib.Core.List.{List, [], _∷_, map}
+use mathlib.Core.Bool.{Bool, true, false}
+use mathlib.Core.List.{List, [], map}
 use native.Mathlib.Omega.{arith}
 use lib.ListN.{length, getD}
 use Rattle.base.specs.Pick.{pick}
@@ -16,13 +16,12 @@ use Rattle.rules.specs.Records.{Grammar}
 use Rattle.rules.specs.Tokens.{TokenSet, all}
 use Rattle.rules.specs.Grammar.{Symbol, isBefore, atEnd, terminalCount}
 use Rattle.rules.specs.First.{firstSets}
-use Rattle.rules.specs.States.{Entry, State, done, Follow, entryOf, closure, kernelOver, lead, Collection, expandNext, lr0States, statesFrom, reductions, shifts}
-use Rattle.rules.specs.Lanes.{Action, shift, reduce, shiftConflicts, reduceConflicts, conflictingActions, actionsAt}
+use Rattle.rules.specs.States.{Entry, State, Follow, entryOf, closure, kernelOver, lead, Collection, expandNext, lr0States, reductions, shifts}
+use Rattle.rules.specs.Lanes.{shift, reduce, shiftConflicts, reduceConflicts, conflictingActions, actionsAt}
 use Rattle.rules.specs.Merge.{resolve}
 use Rattle.knuth.proofs.Closures.{FollowsNarrow, closure-in-range}
 use Rattle.knuth.proofs.Kernels.{closure-entry}
 use Rattle.traces.specs.Recorded.{Recorded, AllRecorded}
-use Rattle.traces.proofs.Trace.{at-recorded}
 use Rattle.walks.proofs.Expand.{Collected, next-keeps, begun-collected}
 use Rattle.walks.proofs.Outcomes.{holds-done}
 use Rattle.walks.proofs.Recorded.{states-recorded, resolve-recorded}

@@ -1,6 +1,6 @@
 -- Every call of `rules` that gives fuel, with the fuel as a parameter.
 use Prim.Native.Nat.{ℕ}
-use mathlib.Core.List.{List, []}
+use mathlib.Core.List.{List}
 use lib.ListN.{length, set, replicate}
 use lib.Dec.{eqb}
 use Rattle.base.specs.Pick.{pick}

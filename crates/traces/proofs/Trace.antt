@@ -36,6 +36,10 @@ module _ (g : Grammar) (sets : Sets) (states : List State) (c : ℕ) where
   abbrev SeenAtLeast : ℕ → Trace → Type 0
   SeenAtLeast n trace = (length (trace .visited) ≡ length states) × (n ≤ seen trace)
 
+  -- no more pairs are left than there is fuel
+  abbrev Left : ℕ → Trace → Type 0
+  Left fuel = SeenAtLeast (length states * length g - fuel)
+
   -- ---- a visit
   visit-seen : (s i n : ℕ) (trace : Trace) → s < length states → SeenAtLeast n trace → SeenAtLeast n (visit s i trace)
   unfolding visit
@@ -155,7 +159,7 @@ module _ (g : Grammar) (sets : Sets) (states : List State) (c : ℕ) where
   module _ (recorded : AllRecorded g states) where
     -- ---- with fuel for one call more than there are pairs to visit, any larger fuel gives the same
     abbrev Agree : ℕ → (ℕ → ℕ → Trace → Trace) → (ℕ → ℕ → Trace → Trace) → Type 0
-    Agree fuel go other = (s i : ℕ) (trace : Trace) → s < length states → i < length g → SeenAtLeast (length states * length g - fuel) trace
+    Agree fuel go other = (s i : ℕ) (trace : Trace) → s < length states → i < length g → Left fuel trace
         → go s i trace ≡ other s i trace
 
     record BothAgree (fuel larger : ℕ) : Type 0 where
@@ -163,48 +167,48 @@ module _ (g : Grammar) (sets : Sets) (states : List State) (c : ℕ) where
       closing : Agree fuel (unClose g sets states (suc larger) c) (unClose g sets states (suc fuel) c)
 
     predecessor-agrees : (fuel larger : ℕ) → BothAgree fuel larger → (s i p : ℕ) (trace : Trace) (b : Bool) → p < length states → i < length g
-        → SeenAtLeast (length states * length g - fuel) trace → to-predecessor (suc larger) s i p trace b ≡ to-predecessor (suc fuel) s i p trace b
+        → Left fuel trace → to-predecessor (suc larger) s i p trace b ≡ to-predecessor (suc fuel) s i p trace b
     predecessor-agrees fuel larger both s i p trace true q r h = both .closing p (i - 1) (onTable (addSuccessor p s) trace) q (omega arith) h
     predecessor-agrees fuel larger both s i p trace false q r h = both .shifting p (i - 1) (onTable (addSuccessor p s) trace) q (omega arith) h
 
     item-agrees : (fuel larger : ℕ) → BothAgree fuel larger → (s j : ℕ) (trace : Trace) (b d : Bool) → s < length states → j < length g
-        → SeenAtLeast (length states * length g - fuel) trace → to-item (suc larger) s j trace b d ≡ to-item (suc fuel) s j trace b d
+        → Left fuel trace → to-item (suc larger) s j trace b d ≡ to-item (suc fuel) s j trace b d
     item-agrees fuel larger both s j trace true true q r h = both .closing s j (onTable (enter s c (tokensPast g sets j)) trace) q r h
     item-agrees fuel larger both s j trace true false q r h = both .shifting s j (onTable (enter s c (tokensPast g sets j)) trace) q r h
     item-agrees fuel larger both s j trace false d q r h = refl
 
     -- a visit that counts leaves a pair less
     visited-left : (fuel s i : ℕ) (trace : Trace) → s < length states → i < length g → wasVisited s i trace ≡ false
-        → SeenAtLeast (length states * length g - suc fuel) trace → SeenAtLeast (length states * length g - fuel) (visit s i trace)
+        → Left (suc fuel) trace → Left fuel (visit s i trace)
     visited-left fuel s i trace q r e (l, h) =
         let (l′, _) = visit-seen s i 0 trace q (l, omega arith) in
         (l′, omega (arith, visit-counts s i trace q r l e))
 
     none-left : (s i : ℕ) (trace : Trace) → s < length states → i < length g → wasVisited s i trace ≡ false
-        → SeenAtLeast (length states * length g - 0) trace → ⊥
+        → Left 0 trace → ⊥
     none-left s i trace q r e (l, h) =
         let (l′, _) = visit-seen s i 0 trace q (l, omega arith) in
         omega (arith, visit-counts s i trace q r l e, seen-bound (visit s i trace) l′)
 
     shifted-agree : (fuel larger : ℕ) → BothAgree fuel larger → (s i : ℕ) (trace : Trace) (b : Bool) → wasVisited s i trace ≡ b → s < length states → i < length g
-        → SeenAtLeast (length states * length g - suc fuel) trace → un-shifted (suc larger) s i trace b ≡ un-shifted (suc fuel) s i trace b
+        → Left (suc fuel) trace → un-shifted (suc larger) s i trace b ≡ un-shifted (suc fuel) s i trace b
     shifted-agree fuel larger both s i trace true e q r h = refl
     shifted-agree fuel larger both s i trace false e q r h =
-        fold-same (SeenAtLeast (length states * length g - fuel)) (λ p trace. to-predecessor (suc larger) s i p trace (atStart g (i - 1)))
+        fold-same (Left fuel) (λ p trace. to-predecessor (suc larger) s i p trace (atStart g (i - 1)))
         (λ p trace. to-predecessor (suc fuel) s i p trace (atStart g (i - 1))) (predecessors g states s (symbolOf (at g i)))
         (λ p among t k. predecessor-agrees fuel larger both s i p t (atStart g (i - 1)) (predecessor-below s p i among) r k)
-        (λ p among t k. predecessor-keeps (SeenAtLeast (length states * length g - fuel)) (seen-kept _) (suc fuel) (both-keep (SeenAtLeast (length states * length g - fuel)) (seen-kept _) (suc fuel)) s i p t (atStart g (i - 1)) (predecessor-below s p i among) k)
+        (λ p among t k. predecessor-keeps (Left fuel) (seen-kept _) (suc fuel) (both-keep (Left fuel) (seen-kept _) (suc fuel)) s i p t (atStart g (i - 1)) (predecessor-below s p i among) k)
         (visit s i trace) (visited-left fuel s i trace q r e h)
 
     closed-agree : (fuel larger : ℕ) → BothAgree fuel larger → (s i : ℕ) (trace : Trace) (b : Bool) → wasVisited s i trace ≡ b → s < length states → i < length g
-        → SeenAtLeast (length states * length g - suc fuel) trace → un-closed (suc larger) s i trace b ≡ un-closed (suc fuel) s i trace b
+        → Left (suc fuel) trace → un-closed (suc larger) s i trace b ≡ un-closed (suc fuel) s i trace b
     closed-agree fuel larger both s i trace true e q r h = refl
     closed-agree fuel larger both s i trace false e q r h =
-        fold-same (SeenAtLeast (length states * length g - fuel)) (λ j trace. to-item (suc larger) s j trace (emptyPast g sets j) (atStart g j))
+        fold-same (Left fuel) (λ j trace. to-item (suc larger) s j trace (emptyPast g sets j) (atStart g j))
         (λ j trace. to-item (suc fuel) s j trace (emptyPast g sets j) (atStart g j)) (itemsBefore g states s (at g i .symbol))
         (λ j among t k. item-agrees fuel larger both s j t (emptyPast g sets j) (atStart g j) q (item-recorded recorded s (at g i .symbol) j among) k)
-        (λ j among t k. item-keeps (SeenAtLeast (length states * length g - fuel)) (seen-kept _) (suc fuel) (both-keep (SeenAtLeast (length states * length g - fuel)) (seen-kept _) (suc fuel)) s j t (emptyPast g sets j) (atStart g j) q k)
-        (enterStart g s c i (visit s i trace)) (start-keeps (SeenAtLeast (length states * length g - fuel)) (seen-kept _) s i (visit s i trace) (visited-left fuel s i trace q r e h))
+        (λ j among t k. item-keeps (Left fuel) (seen-kept _) (suc fuel) (both-keep (Left fuel) (seen-kept _) (suc fuel)) s j t (emptyPast g sets j) (atStart g j) q k)
+        (enterStart g s c i (visit s i trace)) (start-keeps (Left fuel) (seen-kept _) s i (visit s i trace) (visited-left fuel s i trace q r e h))
 
     both-agree : (fuel larger : ℕ) → fuel ≤ larger → BothAgree fuel larger
     unfolding unShift
@@ -214,12 +218,12 @@ module _ (g : Grammar) (sets : Sets) (states : List State) (c : ℕ) where
     }
       where
         shift-ends : (s i : ℕ) (trace : Trace) (b : Bool) → wasVisited s i trace ≡ b → s < length states → i < length g
-            → SeenAtLeast (length states * length g - 0) trace → un-shifted larger s i trace b ≡ un-shifted zero s i trace b
+            → Left 0 trace → un-shifted larger s i trace b ≡ un-shifted zero s i trace b
         shift-ends s i trace true e q r h = refl
         shift-ends s i trace false e q r h = absurd (none-left s i trace q r e h)
 
         close-ends : (s i : ℕ) (trace : Trace) (b : Bool) → wasVisited s i trace ≡ b → s < length states → i < length g
-            → SeenAtLeast (length states * length g - 0) trace → un-closed larger s i trace b ≡ un-closed zero s i trace b
+            → Left 0 trace → un-closed larger s i trace b ≡ un-closed zero s i trace b
         close-ends s i trace true e q r h = refl
         close-ends s i trace false e q r h = absurd (none-left s i trace q r e h)
     both-agree (suc fuel) zero f = absurd (omega arith)
