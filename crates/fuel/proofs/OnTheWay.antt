@@ -22,7 +22,7 @@ use Rattle.rules.specs.Merge.{resolve}
 use Rattle.knuth.proofs.Closures.{FollowsNarrow, closure-in-range}
 use Rattle.knuth.proofs.Kernels.{closure-entry}
 use Rattle.traces.specs.Recorded.{Recorded, AllRecorded}
-use Rattle.walks.proofs.Expand.{Collected, next-keeps, begun-collected}
+use Rattle.walks.proofs.Expand.{AllStates, KeptOfStates, next-keeps, begun-keeps}
 use Rattle.walks.proofs.Outcomes.{holds-done}
 use Rattle.walks.proofs.Recorded.{states-recorded, resolve-recorded}
 use Rattle.fuel.specs.OnTheWay.{CollectionMet, first, next, StatesMet}
@@ -54,18 +54,17 @@ module _ (l : Limits) (g : Grammar) (follow : Follow) (narrow : FollowsNarrow g 
       let (f, k, q) = map-among (λ (e : Entry). record { item = e .item; next = pick (isBefore g x (e .item)) s (e .next); set = e .set }) state m in
       rw q (h f k)
 
-  none-narrow : NarrowState []
-  none-narrow e m = absurd (among-none m)
+  kept-narrow : KeptOfStates g follow NarrowState
+  kept-narrow = record { none = λ e m. absurd (among-none m); closing = closure-narrow; moving = moved-narrow; leading = lead-narrow }
 
-  met-narrow : (s : TokenSet) → s < 2 ^ (n + 1) → {c : Collection} → CollectionMet l g follow s c → Collected l g follow NarrowState none-narrow closure-narrow moved-narrow lead-narrow c
-  met-narrow s b first = begun-collected l g follow NarrowState none-narrow closure-narrow moved-narrow lead-narrow s (λ e m. ⊎-elim (λ q. rw q b) (λ k. absurd (among-none k)) (among-cons m))
+  met-narrow : (s : TokenSet) → s < 2 ^ (n + 1) → {c : Collection} → CollectionMet l g follow s c → AllStates NarrowState c
+  met-narrow s b first = begun-keeps l g follow NarrowState kept-narrow s (λ e m. ⊎-elim (λ q. rw q b) (λ k. absurd (among-none k)) (among-cons m))
   met-narrow s b (next {c} {c′} met more q) =
-      holds-done (Collected l g follow NarrowState none-narrow closure-narrow moved-narrow lead-narrow) c′ (expandNext l g follow c) q
-      (next-keeps l g follow NarrowState none-narrow closure-narrow moved-narrow lead-narrow c (met-narrow s b met))
+      holds-done (AllStates NarrowState) c′ (expandNext l g follow c) q (next-keeps l g follow NarrowState kept-narrow c (met-narrow s b met))
 
   -- so of the kernel that is closed next
   pub next-narrow : (s : TokenSet) → s < 2 ^ (n + 1) → (c : Collection) → CollectionMet l g follow s c → NarrowState (getD (c .kernels) (length (c .states)) [])
-  next-narrow s b c met = all-at NarrowState (c .kernels) (length (c .states)) [] (met-narrow s b met .0) none-narrow
+  next-narrow s b c met = all-at NarrowState (c .kernels) (length (c .states)) [] (met-narrow s b met .0) (kept-narrow .none)
 
 -- ---- the states of lane mode
 module _ (l : Limits) (g : Grammar) where

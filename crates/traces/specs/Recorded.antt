@@ -1,4 +1,4 @@
--- The items of states are records of the grammar, as a trace asks.
+-- The items of states are records of the grammar: then a trace visits no pair but of a state and a record.
 use Prim.Native.Nat.{_<_}
 use mathlib.Core.List.{List}
 use lib.ListN.{length}

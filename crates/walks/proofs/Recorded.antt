@@ -21,7 +21,7 @@ use Rattle.rules.specs.Lanes.{Action, LaneTable, laneTable}
 use Rattle.rules.specs.Merge.{Merge, joinGroups, cloneState, patchLinks, markWalked, walk, takeColumn, takeColumns, mergeBegun, resolve}
 use Rattle.traces.specs.Recorded.{Recorded, AllRecorded}
 use Rattle.traces.proofs.Trace.{at-recorded}
-use Rattle.walks.proofs.Expand.{states-keep}
+use Rattle.walks.proofs.Expand.{KeptOfStates, states-keep}
 use Rattle.walks.proofs.Outcomes.{Holds}
 use Rattle.walks.proofs.Resolve.{resolve-keeps}
 use Rattle.walks.proofs.Walk.{steps-keep}
@@ -58,11 +58,12 @@ module _ (g : Grammar) where
   unfolding lead
   lead-recorded x s state h = same-items-recorded _ (λ e. refl) state h
 
-  module _ (l : Limits) (follow : Follow) where
-    pub states-recorded : 0 < length g → (s : TokenSet) → Holds (AllRecorded g) (statesFrom l g follow s)
-    states-recorded some s =
-        states-keep l g follow (Recorded g) (λ e m. absurd (among-none m)) (closure-recorded follow) (λ x state h. moved-recorded x state) lead-recorded s
-        (λ e m. ⊎-elim (λ q. rw q some) (λ k. absurd (among-none k)) (among-cons m))
+  kept-recorded : (follow : Follow) → KeptOfStates g follow (Recorded g)
+  kept-recorded follow = record { none = λ e m. absurd (among-none m); closing = closure-recorded follow; moving = λ x state h. moved-recorded x state; leading = lead-recorded }
+
+  pub states-recorded : (l : Limits) (follow : Follow) → 0 < length g → (s : TokenSet) → Holds (AllRecorded g) (statesFrom l g follow s)
+  states-recorded l follow some s =
+      states-keep l g follow (Recorded g) (kept-recorded follow) s (λ e m. ⊎-elim (λ q. rw q some) (λ k. absurd (among-none k)) (among-cons m))
 
   -- ---- lane mode: clones, links and sets leave the items as they are
   abbrev MergeRecorded : Merge → Type 0

@@ -22,7 +22,7 @@ use Rattle.walks.proofs.Outcomes.{Holds, holds-pick, holds-in-turn, tur
 module _ (l : Limits) (g : Grammar) (P : List State → Type 0) (Q : Merge → Type 0)
     (taking : (states : List State) (t : ℕ) (actions : List Action) (columns : List TokenSet) → P states → P (set states t (takeColumns actions columns (getD states t []))))
     (ending : (m : Merge) → Q m → P (m .states)) where
-  -- a walk over the table keeps what is asked for
+  -- a walk over the table keeps Q
   abbrev pub Walking : LaneTable → Type 0
   Walking table = (s : ℕ) (m : Merge) → Q m → Holds Q (walk l g table (l .states + 1) s m)
 
