@@ -37,6 +37,21 @@ module _ {ℓ κ} {A : Type ℓ} (test : A → Bool) (step : A → A) (Inv : A �
         by-test true e more = e
         by-test false e more = more (keeps a i e) (omega (arith, falls a i e))
 
+-- where the test holds in the end, more steps give the same
+pub until-enough {ℓ} : {A : Type ℓ} (test : A → Bool) (step : A → A) (n larger : ℕ) (a : A) → n ≤ larger → test (until test step n a) ≡ true
+    → until test step larger a ≡ until test step n a
+unfolding until
+until-enough test step zero zero a f e = refl
+until-enough test step zero (suc larger) a f e = rw e
+until-enough test step (suc n) zero a f e = absurd (omega arith)
+until-enough {A = A} test step (suc n) (suc larger) a f e = by-test (test a) e (until-enough test step n larger (step a))
+  where
+    by-test : (b : Bool) → test (pick b a (until test step n (step a))) ≡ true
+        → (n ≤ larger → test (until test step n (step a)) ≡ true → until test step larger (step a) ≡ until test step n (step a))
+        → pick b a (until test step larger (step a)) ≡ pick b a (until test step n (step a))
+    by-test true e more = refl
+    by-test false e more = more (omega arith) e
+
 -- an invariant that the step for each of a list keeps
 pub rounds-keep {ℓ κ} : {A : Type 0} {B : Type ℓ} (test : B → Bool) (step : A → B → B) (Inv : B → Type κ) (xs : List A)
     → ((x : A) → Among x xs → (b : B) → Inv b → Inv (step x b)) → (n : ℕ) (b : B) → Inv b → Inv (until test (foldOver step xs) n b)

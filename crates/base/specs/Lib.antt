@@ -5,3 +5,4 @@ pub mod Lists
 pub mod Loops
 pub mod Part
 pub mod Pick
+pub mod Turn

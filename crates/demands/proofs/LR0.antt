@@ -21,8 +21,8 @@ use Rattle.rules.specs.Merge.{lanes}
 use Rattle.sets.proofs.Laws.{some-token, has-all, has-none, all-below}
 use Rattle.knuth.proofs.Closures.{closes-behind, behind-closes, lr0-follows-narrow}
 use Rattle.knuth.proofs.Kernels.{Good, kernel-in-closure, left-side-in-closure, closed-in-closure, closure-good, moved-good, closure-only}
-use Rattle.fuel.proofs.Outcomes.{Holds, holds-also}
-use Rattle.fuel.proofs.Resolve.{lanes-keep}
+use Rattle.walks.proofs.Outcomes.{Holds, holds-also}
+use Rattle.walks.proofs.Resolve.{lanes-keep}
 use Rattle.fuel.proofs.Visits.{Few}
 use Rattle.demands.proofs.Bare.{unlinked, moved, bare, core}
 use Rattle.demands.proofs.Collection.{Automaton, Done, collection-linked}

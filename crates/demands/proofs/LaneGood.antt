@@ -27,7 +27,7 @@ use Rattle.sets.proofs.Laws.{within-true}
 use Rattle.knuth.specs.Coded.{Checked}
 use Rattle.knuth.specs.Entries.{HasItem}
 use Rattle.knuth.proofs.Dots.{end-behind}
-use Rattle.fuel.proofs.Outcomes.{holds-done}
+use Rattle.walks.proofs.Outcomes.{holds-done}
 use Rattle.runs.specs.Good.{GoodStates, Covering}
 use Rattle.demands.proofs.Least.{blank, least-sets, alike-entry}
 use Rattle.demands.proofs.Linked.{Linked}

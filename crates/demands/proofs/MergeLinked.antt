@@ -25,10 +25,10 @@ use Rattle.rules.specs.States.{Entry, State, Outcome, done, refused, itemCount}
 use Rattle.rules.specs.Lanes.{Action, LaneTable, laneTable}
 use Rattle.rules.specs.Merge.{Merge, originOf, canJoin, joinGroups, clonesOf, cloneState, patchLinks, markWalked, joined, joinNew, placeJoining, withNew, joinSuccessor, successorsOf, walk, takeColumn, takeColumns, mergeBegun, resolve}
 use Rattle.knuth.proofs.ItemSets.{before-not-at-end}
-use Rattle.fuel.proofs.Outcomes.{Holds, holds-pick}
-use Rattle.fuel.proofs.Resolve.{resolve-keeps}
-use Rattle.fuel.proofs.Visits.{lane-table-rows}
-use Rattle.fuel.proofs.Walk.{walk-keeps}
+use Rattle.walks.proofs.Outcomes.{Holds, holds-pick}
+use Rattle.walks.proofs.Resolve.{resolve-keeps}
+use Rattle.traces.proofs.Rows.{lane-table-rows}
+use Rattle.walks.proofs.Walk.{walk-keeps}
 use Rattle.demands.proofs.Bare.{core}
 use Rattle.demands.proofs.Linked.{Linked, Restates, restated, restated-cores, copied}
 

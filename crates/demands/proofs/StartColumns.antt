@@ -31,7 +31,7 @@ use Rattle.knuth.proofs.Coded.{checked-left}
 use Rattle.knuth.proofs.Dots.{before-behind, not-at-end-behind}
 use Rattle.knuth.proofs.ItemSets.{names-start-first, before-not-at-end, same-production}
 use Rattle.knuth.proofs.Productions.{rule-of-left-side, nonterminal-record}
-use Rattle.fuel.proofs.Trace.{Kept, both-keep}
+use Rattle.traces.proofs.Trace.{Kept, both-keep}
 use Rattle.runs.proofs.Rules.{first-record, zero-has-start}
 
 -- what holds of every element and of the default holds at every place

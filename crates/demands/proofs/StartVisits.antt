@@ -26,10 +26,11 @@ use Rattle.rules.specs.States.{Entry, State, Outcome, done, refused, eachInTurn
 use Rattle.rules.specs.Lanes.{Action, shift, reduce, actionsAt, LaneTable, laneTable, allColumns, pairwiseDisjoint, rowsDisjoint, beachheads}
 use Rattle.rules.specs.Merge.{Merge, originOf, headOf, groupColumns, joinGroups, clonesOf, cloneState, patchLinks, markWalked, walk, takeColumns, takeAll, mergeBegun, merged, mergeRows, resolveBy, resolve, resolveFrom, resolveAll}
 use Rattle.knuth.specs.Coded.{Checked}
-use Rattle.fuel.proofs.Outcomes.{Holds, holds-pick, holds-in-turn, holds-also, holds-both}
-use Rattle.fuel.proofs.Recorded.{Recorded, AllRecorded, resolve-recorded}
+use Rattle.walks.proofs.Outcomes.{Holds, holds-pick, holds-in-turn, holds-also, holds-both}
+use Rattle.traces.specs.Recorded.{Recorded, AllRecorded}
+use Rattle.walks.proofs.Recorded.{resolve-recorded}
 use Rattle.fuel.proofs.Visits.{Few, resolve-few}
-use Rattle.fuel.proofs.Walk.{steps-keep}
+use Rattle.walks.proofs.Walk.{steps-keep}
 use Rattle.demands.proofs.StartColumns.{OnEof, InColumn, Fine, Zeroth, all-fine, group-fine, lane-fine}
 use Rattle.demands.proofs.StartActions.{FineState, Untouched, Sound, Taken, none-fine, taken, take-fine, take-taken}
 

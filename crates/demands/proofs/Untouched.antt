@@ -20,7 +20,7 @@ use Rattle.rules.specs.States.{Entry, State, closes, handsOn, entryOf, closureS
 use Rattle.sets.proofs.Laws.{same-tokens, some-token, has-all, has-none, has-below, all-below}
 use Rattle.knuth.proofs.Closures.{closes-behind, behind-closes, lr0-follows-narrow}
 use Rattle.knuth.proofs.Kernels.{Good, closure-entry, kernel-in-closure, left-side-in-closure, closed-in-closure, closure-good, closure-sets-only}
-use Rattle.fuel.proofs.Outcomes.{Holds, holds-also}
+use Rattle.walks.proofs.Outcomes.{Holds, holds-also}
 use Rattle.demands.proofs.Bare.{unlinked, moved}
 use Rattle.demands.proofs.Collection.{Done, collection-linked}
 use Rattle.demands.proofs.LR0.{hand, begin}

@@ -9,6 +9,8 @@ use lib.ListN.{length}
 use lib.Dec.{eqb, leb}
 use borrow.Author.Tests.{leb-false}
 use Rattle.base.specs.Pick.{pick}
+use Rattle.base.specs.Turn.{Turn, again, over, after, OnTurn}
+use Rattle.base.proofs.Fuel.{fuel-enough}
 use Rattle.rules.specs.Records.{Grammar}
 use Rattle.rules.specs.Grammar.{leftOf}
 use Rattle.rules.specs.Run.{Act, shift, reduce, noAct, Table, Standing, Moved, goes, ends, RunResult, shifted, reduced, listFull, stackFull, sideLength, tokenAt, stateUnder, moveShift, moveGoto, moveEnd, moveReduce, moveBy, move, answered, runFrom}
@@ -65,23 +67,42 @@ module _ {S : Type 0} (table : Table S) (g : Grammar) (tokens : List ℕ) (limit
   unfolding move
   move-below-limit s = below-by (table .act (stateUnder table 0 s) (tokenAt g tokens (s .place))) s
 
-  abbrev went-on : ℕ → Moved S → RunResult S
-  went-on fuel moved = elim moved [ goes s′ ↦ runFrom table g tokens limit fuel s′ | ends end s′ ↦ answered end s′ ]
+  -- ---- turn by turn
+  abbrev turnOf : Moved S → Turn (Standing S) (RunResult S)
+  turnOf (goes s) = again s
+  turnOf (ends end s) = over (answered end s)
+
+  abbrev move-turn : Standing S → Turn (Standing S) (RunResult S)
+  move-turn s = turnOf (move table g tokens limit s)
+
+  run-goes : (fuel : ℕ) (s : Standing S) → runFrom table g tokens limit (suc fuel) s ≡ after (runFrom table g tokens limit fuel) (move-turn s)
+  unfolding runFrom
+  run-goes fuel s = by-move (move table g tokens limit s)
+    where
+      by-move : (moved : Moved S)
+          → elim moved [ goes s′ ↦ runFrom table g tokens limit fuel s′ | ends end s′ ↦ answered end s′ ] ≡ after (runFrom table g tokens limit fuel) (turnOf moved)
+      by-move (goes s′) = refl
+      by-move (ends end s′) = refl
+
+  -- the limit leaves no more steps than there is fuel
+  abbrev Left : ℕ → Standing S → Type 0
+  Left fuel s = limit ≤ s .steps + fuel
+
+  move-left : (fuel : ℕ) (s : Standing S) → Left (suc fuel) s → OnTurn (Left fuel) (λ _. Unit {0}) (move-turn s)
+  move-left fuel s h = by-move (move table g tokens limit s) (move-is-a-step s)
+    where
+      by-move : (moved : Moved S) → OneStep s moved → OnTurn (Left fuel) (λ _. Unit {0}) (turnOf moved)
+      by-move (goes s′) p = omega arith
+      by-move (ends end s′) p = tt
+
+  move-last : (s : Standing S) → Left zero s → OnTurn (λ _. ⊥) (λ _. Unit {0}) (move-turn s)
+  move-last s h = by-move (move table g tokens limit s) (move-below-limit s)
+    where
+      by-move : (moved : Moved S) → Below s moved → OnTurn (λ _. ⊥) (λ _. Unit {0}) (turnOf moved)
+      by-move (goes s′) p = omega arith
+      by-move (ends end s′) p = tt
 
   -- with fuel for one move more than the limit leaves, any larger fuel gives the same
   pub run-fuel : (fuel larger : ℕ) (s : Standing S) → fuel ≤ larger → limit ≤ s .steps + fuel
       → runFrom table g tokens limit (suc larger) s ≡ runFrom table g tokens limit (suc fuel) s
-  unfolding runFrom
-  run-fuel zero larger s f h = by-move (move table g tokens limit s) (move-below-limit s)
-    where
-      by-move : (moved : Moved S) → Below s moved → went-on larger moved ≡ went-on zero moved
-      by-move (ends end s′) q = refl
-      by-move (goes s′) q = absurd (omega arith)
-  run-fuel (suc fuel) zero s f h = absurd (omega arith)
-  run-fuel (suc fuel) (suc larger) s f h = by-move (move table g tokens limit s) (move-is-a-step s) (run-fuel fuel larger)
-    where
-      by-move : (moved : Moved S) → OneStep s moved
-          → ((s′ : Standing S) → fuel ≤ larger → limit ≤ s′ .steps + fuel → runFrom table g tokens limit (suc larger) s′ ≡ runFrom table g tokens limit (suc fuel) s′)
-          → went-on (suc larger) moved ≡ went-on (suc fuel) moved
-      by-move (ends end s′) p more = refl
-      by-move (goes s′) p more = more s′ (omega arith) (omega arith)
+  run-fuel = fuel-enough (runFrom table g tokens limit) move-turn run-goes Left (λ _. Unit {0}) move-left move-last

@@ -1,5 +1,6 @@
 pub mod Coding
 pub mod Examples
+pub mod Fuels
 pub mod Laws
 pub mod Readings
 pub mod Rooms

@@ -12,7 +12,8 @@ use Rattle.base.specs.Pick.{pick}
 use Rattle.base.specs.Lists.{upTo, sum, foldOver}
 use Rattle.base.specs.Among.{Among}
 use Rattle.base.proofs.Folds.{fold-same}
-use Rattle.base.proofs.Lists.{keep-among, upTo-among, fold-keeps, sum-set, sum-le}
+use Rattle.base.proofs.Lists.{among-none, keep-among, upTo-among, fold-keeps, sum-set, sum-le}
+use Rattle.base.proofs.Members.{map-among, all-at}
 use Rattle.rules.specs.Records.{Grammar, at}
 use Rattle.rules.specs.Tokens.{TokenSet, single, join, eof}
 use Rattle.rules.specs.Grammar.{symbolOf, atStart, start, terminalCount}
@@ -21,24 +22,28 @@ use Rattle.rules.specs.States.{Entry, State}
 use Rattle.rules.specs.Lanes.{Trace, onTable, wasVisited, visit, addSuccessor, enter, predecessors, itemsBefore, emptyPast, tokensPast, enterStart, unShift, unClose}
 use Rattle.sets.specs.Size.{size}
 use Rattle.sets.proofs.Laws.{has-false, has-join, has-single, within-join, size-le, size-within, size-strict}
+use Rattle.traces.specs.Recorded.{Recorded, AllRecorded}
+
+pub at-recorded : (g : Grammar) (states : List State) (s : ℕ) → AllRecorded g states → Recorded g (getD states s [])
+at-recorded g states s h = all-at (Recorded g) states s [] h (λ e m. absurd (among-none m))
 
 module _ (g : Grammar) (sets : Sets) (states : List State) (c : ℕ) where
-  -- the items of every state are records of the grammar
-  abbrev pub Recorded : Type 0
-  Recorded = (s i : ℕ) → Among i (map (λ (e : Entry). e .item) (getD states s [])) → i < length g
-
   -- how many pairs were visited
   abbrev seen : Trace → ℕ
   seen trace = sum (map (size (length g)) (trace .visited))
 
   -- at least n pairs were visited
-  abbrev Further : ℕ → Trace → Type 0
-  Further n trace = (length (trace .visited) ≡ length states) × (n ≤ seen trace)
+  abbrev SeenAtLeast : ℕ → Trace → Type 0
+  SeenAtLeast n trace = (length (trace .visited) ≡ length states) × (n ≤ seen trace)
+
+  -- no more pairs are left than there is fuel
+  abbrev Left : ℕ → Trace → Type 0
+  Left fuel = SeenAtLeast (length states * length g - fuel)
 
   -- ---- a visit
-  visit-further : (s i n : ℕ) (trace : Trace) → s < length states → Further n trace → Further n (visit s i trace)
+  visit-seen : (s i n : ℕ) (trace : Trace) → s < length states → SeenAtLeast n trace → SeenAtLeast n (visit s i trace)
   unfolding visit
-  visit-further s i n trace b (l, h) =
+  visit-seen s i n trace b (l, h) =
       let old : ℕ = getD (trace .visited) s 0 in (
         length-set (trace .visited) s (join old (single i)) ∙ l,
         omega (arith, sum-set (size (length g)) (trace .visited) s (join old (single i)) 0 (rw l b), size-within old (join old (single i)) (within-join old (single i)) (length g)),
@@ -62,18 +67,21 @@ module _ (g : Grammar) (sets : Sets) (states : List State) (c : ℕ) where
   unfolding predecessors
   predecessor-below s p i among = let (m, _) = keep-among _ (upTo (length states)) among in upTo-among p (length states) .0 m
 
-  item-recorded : Recorded → (s a j : ℕ) → Among j (itemsBefore g states s a) → j < length g
+  item-recorded : AllRecorded g states → (s a j : ℕ) → Among j (itemsBefore g states s a) → j < length g
   unfolding itemsBefore
-  item-recorded recorded s a j among = let (m, _) = keep-among _ (map (λ (e : Entry). e .item) (getD states s [])) among in recorded s j m
+  item-recorded recorded s a j among =
+      let (m, _) = keep-among _ (map (λ (e : Entry). e .item) (getD states s [])) among in
+      let (e, k, q) = map-among (λ (e : Entry). e .item) (getD states s []) m in
+      rw q (at-recorded g states s recorded e k)
 
   -- ---- the loops: what is done at each predecessor, and at each item before the nonterminal
-  abbrev to-predecessor : ℕ → ℕ → ℕ → ℕ → Trace → Bool → Trace
+  abbrev pub to-predecessor : ℕ → ℕ → ℕ → ℕ → Trace → Bool → Trace
   to-predecessor fuel s i p trace b = elim b [
     | true ↦ unClose g sets states fuel c p (i - 1) (onTable (addSuccessor p s) trace)
     | false ↦ unShift g sets states fuel c p (i - 1) (onTable (addSuccessor p s) trace)
   ]
 
-  abbrev to-item : ℕ → ℕ → ℕ → Trace → Bool → Bool → Trace
+  abbrev pub to-item : ℕ → ℕ → ℕ → Trace → Bool → Bool → Trace
   to-item fuel s j trace empty first = elim empty [
     | true ↦ elim first [
       | true ↦ unClose g sets states fuel c s j (onTable (enter s c (tokensPast g sets j)) trace)
@@ -82,13 +90,13 @@ module _ (g : Grammar) (sets : Sets) (states : List State) (c : ℕ) where
     | false ↦ onTable (enter s c (tokensPast g sets j)) trace
   ]
 
-  abbrev un-shifted : ℕ → ℕ → ℕ → Trace → Bool → Trace
+  abbrev pub un-shifted : ℕ → ℕ → ℕ → Trace → Bool → Trace
   un-shifted fuel s i trace b = elim b [
     | true ↦ trace
     | false ↦ foldOver (λ p trace. to-predecessor fuel s i p trace (atStart g (i - 1))) (predecessors g states s (symbolOf (at g i))) (visit s i trace)
   ]
 
-  abbrev un-closed : ℕ → ℕ → ℕ → Trace → Bool → Trace
+  abbrev pub un-closed : ℕ → ℕ → ℕ → Trace → Bool → Trace
   un-closed fuel s i trace b = elim b [
     | true ↦ trace
     | false ↦
@@ -103,12 +111,9 @@ module _ (g : Grammar) (sets : Sets) (states : List State) (c : ℕ) where
     pub entering : (s : ℕ) (tokens : TokenSet) (trace : Trace) → P trace → P (onTable (enter s c tokens) trace)
 
   module _ (P : Trace → Type 0) (kept : Kept P) where
-    abbrev pub Keeps : (ℕ → ℕ → Trace → Trace) → Type 0
-    Keeps go = (s i : ℕ) (trace : Trace) → s < length states → P trace → P (go s i trace)
-
     pub record BothKeep (fuel : ℕ) : Type 0 where
-      pub shifting : Keeps (unShift g sets states fuel c)
-      pub closing : Keeps (unClose g sets states fuel c)
+      pub shifting : (s i : ℕ) (trace : Trace) → s < length states → P trace → P (unShift g sets states fuel c s i trace)
+      pub closing : (s i : ℕ) (trace : Trace) → s < length states → P trace → P (unClose g sets states fuel c s i trace)
 
     start-keeps : (s i : ℕ) (trace : Trace) → P trace → P (enterStart g s c i trace)
     unfolding enterStart
@@ -148,13 +153,13 @@ module _ (g : Grammar) (sets : Sets) (states : List State) (c : ℕ) where
       closing = λ s i trace q h. closed-keeps fuel (both-keep fuel) s i trace (wasVisited s i trace) q h;
     }
 
-  further-kept : (n : ℕ) → Kept (Further n)
-  further-kept n = record { visiting = λ s i trace b h. visit-further s i n trace b h; linking = λ p s trace h. h; entering = λ s tokens trace h. h }
+  seen-kept : (n : ℕ) → Kept (SeenAtLeast n)
+  seen-kept n = record { visiting = λ s i trace b h. visit-seen s i n trace b h; linking = λ p s trace h. h; entering = λ s tokens trace h. h }
 
-  module _ (recorded : Recorded) where
+  module _ (recorded : AllRecorded g states) where
     -- ---- with fuel for one call more than there are pairs to visit, any larger fuel gives the same
     abbrev Agree : ℕ → (ℕ → ℕ → Trace → Trace) → (ℕ → ℕ → Trace → Trace) → Type 0
-    Agree fuel go other = (s i : ℕ) (trace : Trace) → s < length states → i < length g → Further (length states * length g - fuel) trace
+    Agree fuel go other = (s i : ℕ) (trace : Trace) → s < length states → i < length g → Left fuel trace
         → go s i trace ≡ other s i trace
 
     record BothAgree (fuel larger : ℕ) : Type 0 where
@@ -162,48 +167,48 @@ module _ (g : Grammar) (sets : Sets) (states : List State) (c : ℕ) where
       closing : Agree fuel (unClose g sets states (suc larger) c) (unClose g sets states (suc fuel) c)
 
     predecessor-agrees : (fuel larger : ℕ) → BothAgree fuel larger → (s i p : ℕ) (trace : Trace) (b : Bool) → p < length states → i < length g
-        → Further (length states * length g - fuel) trace → to-predecessor (suc larger) s i p trace b ≡ to-predecessor (suc fuel) s i p trace b
+        → Left fuel trace → to-predecessor (suc larger) s i p trace b ≡ to-predecessor (suc fuel) s i p trace b
     predecessor-agrees fuel larger both s i p trace true q r h = both .closing p (i - 1) (onTable (addSuccessor p s) trace) q (omega arith) h
     predecessor-agrees fuel larger both s i p trace false q r h = both .shifting p (i - 1) (onTable (addSuccessor p s) trace) q (omega arith) h
 
     item-agrees : (fuel larger : ℕ) → BothAgree fuel larger → (s j : ℕ) (trace : Trace) (b d : Bool) → s < length states → j < length g
-        → Further (length states * length g - fuel) trace → to-item (suc larger) s j trace b d ≡ to-item (suc fuel) s j trace b d
+        → Left fuel trace → to-item (suc larger) s j trace b d ≡ to-item (suc fuel) s j trace b d
     item-agrees fuel larger both s j trace true true q r h = both .closing s j (onTable (enter s c (tokensPast g sets j)) trace) q r h
     item-agrees fuel larger both s j trace true false q r h = both .shifting s j (onTable (enter s c (tokensPast g sets j)) trace) q r h
     item-agrees fuel larger both s j trace false d q r h = refl
 
     -- a visit that counts leaves a pair less
     visited-left : (fuel s i : ℕ) (trace : Trace) → s < length states → i < length g → wasVisited s i trace ≡ false
-        → Further (length states * length g - suc fuel) trace → Further (length states * length g - fuel) (visit s i trace)
+        → Left (suc fuel) trace → Left fuel (visit s i trace)
     visited-left fuel s i trace q r e (l, h) =
-        let (l′, _) = visit-further s i 0 trace q (l, omega arith) in
+        let (l′, _) = visit-seen s i 0 trace q (l, omega arith) in
         (l′, omega (arith, visit-counts s i trace q r l e))
 
     none-left : (s i : ℕ) (trace : Trace) → s < length states → i < length g → wasVisited s i trace ≡ false
-        → Further (length states * length g - 0) trace → ⊥
+        → Left 0 trace → ⊥
     none-left s i trace q r e (l, h) =
-        let (l′, _) = visit-further s i 0 trace q (l, omega arith) in
+        let (l′, _) = visit-seen s i 0 trace q (l, omega arith) in
         omega (arith, visit-counts s i trace q r l e, seen-bound (visit s i trace) l′)
 
     shifted-agree : (fuel larger : ℕ) → BothAgree fuel larger → (s i : ℕ) (trace : Trace) (b : Bool) → wasVisited s i trace ≡ b → s < length states → i < length g
-        → Further (length states * length g - suc fuel) trace → un-shifted (suc larger) s i trace b ≡ un-shifted (suc fuel) s i trace b
+        → Left (suc fuel) trace → un-shifted (suc larger) s i trace b ≡ un-shifted (suc fuel) s i trace b
     shifted-agree fuel larger both s i trace true e q r h = refl
     shifted-agree fuel larger both s i trace false e q r h =
-        fold-same (Further (length states * length g - fuel)) (λ p trace. to-predecessor (suc larger) s i p trace (atStart g (i - 1)))
+        fold-same (Left fuel) (λ p trace. to-predecessor (suc larger) s i p trace (atStart g (i - 1)))
         (λ p trace. to-predecessor (suc fuel) s i p trace (atStart g (i - 1))) (predecessors g states s (symbolOf (at g i)))
         (λ p among t k. predecessor-agrees fuel larger both s i p t (atStart g (i - 1)) (predecessor-below s p i among) r k)
-        (λ p among t k. predecessor-keeps (Further (length states * length g - fuel)) (further-kept _) (suc fuel) (both-keep (Further (length states * length g - fuel)) (further-kept _) (suc fuel)) s i p t (atStart g (i - 1)) (predecessor-below s p i among) k)
+        (λ p among t k. predecessor-keeps (Left fuel) (seen-kept _) (suc fuel) (both-keep (Left fuel) (seen-kept _) (suc fuel)) s i p t (atStart g (i - 1)) (predecessor-below s p i among) k)
         (visit s i trace) (visited-left fuel s i trace q r e h)
 
     closed-agree : (fuel larger : ℕ) → BothAgree fuel larger → (s i : ℕ) (trace : Trace) (b : Bool) → wasVisited s i trace ≡ b → s < length states → i < length g
-        → Further (length states * length g - suc fuel) trace → un-closed (suc larger) s i trace b ≡ un-closed (suc fuel) s i trace b
+        → Left (suc fuel) trace → un-closed (suc larger) s i trace b ≡ un-closed (suc fuel) s i trace b
     closed-agree fuel larger both s i trace true e q r h = refl
     closed-agree fuel larger both s i trace false e q r h =
-        fold-same (Further (length states * length g - fuel)) (λ j trace. to-item (suc larger) s j trace (emptyPast g sets j) (atStart g j))
+        fold-same (Left fuel) (λ j trace. to-item (suc larger) s j trace (emptyPast g sets j) (atStart g j))
         (λ j trace. to-item (suc fuel) s j trace (emptyPast g sets j) (atStart g j)) (itemsBefore g states s (at g i .symbol))
         (λ j among t k. item-agrees fuel larger both s j t (emptyPast g sets j) (atStart g j) q (item-recorded recorded s (at g i .symbol) j among) k)
-        (λ j among t k. item-keeps (Further (length states * length g - fuel)) (further-kept _) (suc fuel) (both-keep (Further (length states * length g - fuel)) (further-kept _) (suc fuel)) s j t (emptyPast g sets j) (atStart g j) q k)
-        (enterStart g s c i (visit s i trace)) (start-keeps (Further (length states * length g - fuel)) (further-kept _) s i (visit s i trace) (visited-left fuel s i trace q r e h))
+        (λ j among t k. item-keeps (Left fuel) (seen-kept _) (suc fuel) (both-keep (Left fuel) (seen-kept _) (suc fuel)) s j t (emptyPast g sets j) (atStart g j) q k)
+        (enterStart g s c i (visit s i trace)) (start-keeps (Left fuel) (seen-kept _) s i (visit s i trace) (visited-left fuel s i trace q r e h))
 
     both-agree : (fuel larger : ℕ) → fuel ≤ larger → BothAgree fuel larger
     unfolding unShift
@@ -213,12 +218,12 @@ module _ (g : Grammar) (sets : Sets) (states : List State) (c : ℕ) where
     }
       where
         shift-ends : (s i : ℕ) (trace : Trace) (b : Bool) → wasVisited s i trace ≡ b → s < length states → i < length g
-            → Further (length states * length g - 0) trace → un-shifted larger s i trace b ≡ un-shifted zero s i trace b
+            → Left 0 trace → un-shifted larger s i trace b ≡ un-shifted zero s i trace b
         shift-ends s i trace true e q r h = refl
         shift-ends s i trace false e q r h = absurd (none-left s i trace q r e h)
 
         close-ends : (s i : ℕ) (trace : Trace) (b : Bool) → wasVisited s i trace ≡ b → s < length states → i < length g
-            → Further (length states * length g - 0) trace → un-closed larger s i trace b ≡ un-closed zero s i trace b
+            → Left 0 trace → un-closed larger s i trace b ≡ un-closed zero s i trace b
         close-ends s i trace true e q r h = refl
         close-ends s i trace false e q r h = absurd (none-left s i trace q r e h)
     both-agree (suc fuel) zero f = absurd (omega arith)

@@ -21,13 +21,13 @@ use Rattle.rules.specs.Lanes.{LaneTable}
 use Rattle.rules.specs.Merge.{Merge, canJoin, joinGroups, clonesOf, cloneState, patchLinks, markWalked, joined, joinNew, placeJoining, Joining, withNew, joinSuccessor, successorsOf, walk}
 use Rattle.sets.specs.Size.{size}
 use Rattle.sets.proofs.Laws.{has-false, has-join, has-single, within-join, size-le, size-within, size-strict}
-use Rattle.fuel.proofs.Outcomes.{Holds, holds-pick, holds-also, holds-in-turn, same-in-turn}
+use Rattle.walks.proofs.Outcomes.{Holds, holds-pick, holds-also, holds-in-turn, same-in-turn}
 
 module _ (l : Limits) (g : Grammar) (table : LaneTable) where
-  abbrev stepped : ℕ → Outcome Joining → Outcome Merge
+  abbrev pub stepped : ℕ → Outcome Joining → Outcome Merge
   stepped fuel o = elim o [ done j ↦ walk l g table fuel (j .state) (j .merge) | refused why ↦ refused why ]
 
-  abbrev walked-by : ℕ → ℕ → Merge → Bool → Outcome Merge
+  abbrev pub walked-by : ℕ → ℕ → Merge → Bool → Outcome Merge
   walked-by fuel s m b = elim b [
     | true ↦ done m
     | false ↦ eachInTurn (λ successor m. stepped fuel (joinSuccessor l g table s successor m)) (successorsOf table m s) (markWalked s m)
@@ -92,7 +92,8 @@ module _ (l : Limits) (g : Grammar) (Q : Merge → Type 0) (marking : (s : ℕ) 
     pub steps-keep : (fuel s : ℕ) (m : Merge) → Q m → Holds Q (walk l g table fuel s m)
     steps-keep = walk-keeps l g table Q marking (λ m₀ s successor among m h. successor-keeps s successor m h)
 
-module _ (l : Limits) (g : Grammar) (table : LaneTable) (rows : length table ≤ l .states) where
+-- ---- the limit, and the states walked
+module _ (l : Limits) where
   abbrev pub Fits : Merge → Type 0
   Fits m = length (m .states) ≤ l .states
 
@@ -100,12 +101,27 @@ module _ (l : Limits) (g : Grammar) (table : LaneTable) (rows : length table ≤
   abbrev pub walks : Merge → ℕ
   walks m = size (l .states) (m .walked)
 
+  abbrev pub WalkedAtLeast : ℕ → Merge → Type 0
+  WalkedAtLeast n m = Fits m × (n ≤ walks m)
+
+  mark-walked-keeps : (n s : ℕ) (m : Merge) → WalkedAtLeast n m → WalkedAtLeast n (markWalked s m)
+  unfolding markWalked
+  mark-walked-keeps n s m (f, k) = (f, omega (arith, size-within (m .walked) (join (m .walked) (single s)) (within-join (m .walked) (single s)) (l .states)))
+
+  -- a state that was not walked counts
+  mark-walked-counts : (s : ℕ) (m : Merge) → s < l .states → has (m .walked) s ≡ false → walks m < walks (markWalked s m)
+  unfolding markWalked
+  mark-walked-counts s m b e =
+      size-strict (m .walked) (join (m .walked) (single s)) (within-join (m .walked) (single s)) (l .states) s b
+      (has-join (m .walked) (single s) s .1 (inr (has-single s s .1 refl))) (has-false (m .walked) s .0 e)
+
+module _ (l : Limits) (g : Grammar) (table : LaneTable) (rows : length table ≤ l .states) where
   -- ---- joining a successor walks nothing, and stays within the limit
   record Joins (walked : ℕ) (m : Merge) : Type 0 where
-    fits : Fits m
+    fits : Fits l m
     same : m .walked ≡ walked
 
-  joined-joins : (s successor t : ℕ) (m : Merge) → Fits m → Joins (m .walked) (joined g s successor t m)
+  joined-joins : (s successor t : ℕ) (m : Merge) → Fits l m → Joins (m .walked) (joined g s successor t m)
   unfolding joined joinGroups patchLinks
   joined-joins s successor t m h = by-test (eqb t successor)
     where
@@ -113,13 +129,13 @@ module _ (l : Limits) (g : Grammar) (table : LaneTable) (rows : length table ≤
       by-test true = record { fits = h; same = refl }
       by-test false = record { fits = rw (length-set (m .states) s) h; same = refl }
 
-  abbrev Placed : Merge → Joining → Type 0
-  Placed m j = (j .state < l .states) × Joins (m .walked) (j .merge)
+  abbrev JoinsWithin : Merge → Joining → Type 0
+  JoinsWithin m j = (j .state < l .states) × Joins (m .walked) (j .merge)
 
-  placed-new : (m : Merge) (o : Outcome Merge) (t : ℕ) → Holds (λ m′. (t < l .states) × Joins (m .walked) m′) o → Holds (Placed m) (withNew t o)
+  new-within : (m : Merge) (o : Outcome Merge) (t : ℕ) → Holds (λ m′. (t < l .states) × Joins (m .walked) m′) o → Holds (JoinsWithin m) (withNew t o)
   unfolding withNew
-  placed-new m (done m′) t p = p
-  placed-new m (refused why) t p = tt
+  new-within m (done m′) t p = p
+  new-within m (refused why) t p = tt
 
   clone-joins : (s successor : ℕ) (m : Merge) → length (m .states) < l .states
       → Joins (m .walked) (joined g s successor (length (m .states)) (cloneState successor m))
@@ -142,76 +158,62 @@ module _ (l : Limits) (g : Grammar) (table : LaneTable) (rows : length table ≤
   unfolding clonesOf
   clone-below m s c among = let (i, _) = keep-among _ (upTo (length (m .states))) among in upTo-among c (length (m .states)) .0 i
 
-  choice-below : (m : Merge) (successor t : ℕ) → Fits m → successor < l .states → Among t (successor ∷ clonesOf m successor) → t < l .states
+  choice-below : (m : Merge) (successor t : ℕ) → Fits l m → successor < l .states → Among t (successor ∷ clonesOf m successor) → t < l .states
   choice-below m successor t h b i = ⊎-elim (λ e. rw e b) (λ c. omega (arith, clone-below m successor t c)) (among-cons i)
 
-  successor-joins : (s successor : ℕ) (m : Merge) → Fits m → successor < l .states → Holds (Placed m) (joinSuccessor l g table s successor m)
+  successor-joins : (s successor : ℕ) (m : Merge) → Fits l m → successor < l .states → Holds (JoinsWithin m) (joinSuccessor l g table s successor m)
   unfolding joinSuccessor
   successor-joins s successor m h b =
       let choices : List ℕ = successor ∷ clonesOf m successor in
       let k : ℕ = placeJoining table m s choices in
-      holds-pick (Placed m) (ltb k (length choices)) _ _
+      holds-pick (JoinsWithin m) (ltb k (length choices)) _ _
       (λ found. (choice-below m successor (getD choices k 0) h b (among-at choices k 0 (ltb-true k (length choices) found)), joined-joins s successor (getD choices k 0) m h))
-      (λ _. placed-new m (joinNew l g table s successor m) (length (m .states)) (new-joins s successor m))
+      (λ _. new-within m (joinNew l g table s successor m) (length (m .states)) (new-joins s successor m))
 
   -- ---- the walk only adds to the states walked
-  abbrev pub Further : ℕ → Merge → Type 0
-  Further n m = Fits m × (n ≤ walks m)
-
   successor-below : (m : Merge) (s successor : ℕ) → Among successor (successorsOf table m s) → successor < l .states
   unfolding successorsOf
   successor-below m s successor among =
       let (i, _) = keep-among _ (upTo (length table)) among in
       omega (arith, upTo-among successor (length table) .0 i)
 
-  mark-walked-further : (n s : ℕ) (m : Merge) → Further n m → Further n (markWalked s m)
-  unfolding markWalked
-  mark-walked-further n s m (f, k) = (f, omega (arith, size-within (m .walked) (join (m .walked) (single s)) (within-join (m .walked) (single s)) (l .states)))
-
-  joining-further : (n : ℕ) (m₀ : Merge) (s successor : ℕ) → Among successor (successorsOf table m₀ s) → (m : Merge) → Further n m
-      → Holds (λ j. Further n (j .merge)) (joinSuccessor l g table s successor m)
-  joining-further n m₀ s successor among m (f, k) =
-      holds-also (Placed m) (λ j. Further n (j .merge)) (λ j (w, p). (p .fits, rw (p .same) k)) (joinSuccessor l g table s successor m)
+  joining-walks-none : (n : ℕ) (m₀ : Merge) (s successor : ℕ) → Among successor (successorsOf table m₀ s) → (m : Merge) → WalkedAtLeast l n m
+      → Holds (λ j. WalkedAtLeast l n (j .merge)) (joinSuccessor l g table s successor m)
+  joining-walks-none n m₀ s successor among m (f, k) =
+      holds-also (JoinsWithin m) (λ j. WalkedAtLeast l n (j .merge)) (λ j (w, p). (p .fits, rw (p .same) k)) (joinSuccessor l g table s successor m)
       (successor-joins s successor m f (successor-below m₀ s successor among))
 
-  pub walk-further : (n fuel s : ℕ) (m : Merge) → Further n m → Holds (Further n) (walk l g table fuel s m)
-  walk-further n = walk-keeps l g table (Further n) (mark-walked-further n) (joining-further n)
-
-  -- ---- a state that was not walked counts
-  mark-walked-counts : (s : ℕ) (m : Merge) → s < l .states → has (m .walked) s ≡ false → walks m < walks (markWalked s m)
-  unfolding markWalked
-  mark-walked-counts s m b e =
-      size-strict (m .walked) (join (m .walked) (single s)) (within-join (m .walked) (single s)) (l .states) s b
-      (has-join (m .walked) (single s) s .1 (inr (has-single s s .1 refl))) (has-false (m .walked) s .0 e)
+  pub walk-keeps-walked : (n fuel s : ℕ) (m : Merge) → WalkedAtLeast l n m → Holds (WalkedAtLeast l n) (walk l g table fuel s m)
+  walk-keeps-walked n = walk-keeps l g table (WalkedAtLeast l n) (mark-walked-keeps l n) (joining-walks-none n)
 
   -- with fuel for one call more than there are states to walk, any larger fuel gives the same
-  pub walk-fuel : (fuel larger s : ℕ) (m : Merge) → fuel ≤ larger → s < l .states → Fits m → l .states ≤ walks m + fuel
+  pub walk-fuel : (fuel larger s : ℕ) (m : Merge) → fuel ≤ larger → s < l .states → Fits l m → l .states ≤ walks l m + fuel
       → walk l g table (suc larger) s m ≡ walk l g table (suc fuel) s m
   unfolding walk
   walk-fuel zero larger s m f b h k = by-test (has (m .walked) s) refl
     where
       by-test : (t : Bool) → has (m .walked) s ≡ t → walked-by l g table larger s m t ≡ walked-by l g table zero s m t
       by-test true e = refl
-      by-test false e = absurd (omega (arith, mark-walked-counts s m b e, size-le (l .states) (markWalked s m .walked)))
+      by-test false e = absurd (omega (arith, mark-walked-counts l s m b e, size-le (l .states) (markWalked s m .walked)))
   walk-fuel (suc fuel) zero s m f b h k = absurd (omega arith)
   walk-fuel (suc fuel) (suc larger) s m f b h k = by-test (has (m .walked) s) refl (walk-fuel fuel larger)
     where
       Later : Type 0
-      Later = (s : ℕ) (m : Merge) → fuel ≤ larger → s < l .states → Fits m → l .states ≤ walks m + fuel
+      Later = (s : ℕ) (m : Merge) → fuel ≤ larger → s < l .states → Fits l m → l .states ≤ walks l m + fuel
           → walk l g table (suc larger) s m ≡ walk l g table (suc fuel) s m
 
       Left : Merge → Type 0
-      Left m′ = Fits m′ × (l .states ≤ walks m′ + fuel)
+      Left m′ = Fits l m′ × (l .states ≤ walks l m′ + fuel)
 
-      agree : (m′ : Merge) (o : Outcome Joining) → Holds (Placed m′) o → Later → l .states ≤ walks m′ + fuel → stepped l g table (suc larger) o ≡ stepped l g table (suc fuel) o
+      agree : (m′ : Merge) (o : Outcome Joining) → Holds (JoinsWithin m′) o → Later → l .states ≤ walks l m′ + fuel → stepped l g table (suc larger) o ≡ stepped l g table (suc fuel) o
       agree m′ (done j) (w, p) more r = more (j .state) (j .merge) (omega arith) w (p .fits) (rw (p .same) r)
       agree m′ (refused why) p more r = refl
 
-      left : (m′ : Merge) (o : Outcome Joining) → Holds (Placed m′) o → l .states ≤ walks m′ + fuel → Holds Left (stepped l g table (suc fuel) o)
+      left : (m′ : Merge) (o : Outcome Joining) → Holds (JoinsWithin m′) o → l .states ≤ walks l m′ + fuel → Holds Left (stepped l g table (suc fuel) o)
       left m′ (done j) (w, p) r =
-          let r′ : l .states ≤ walks (j .merge) + fuel = rw (p .same) r in
-          holds-also (Further (walks (j .merge))) Left (λ m″ (f, q). (f, omega arith)) (walk l g table (suc fuel) (j .state) (j .merge))
-          (walk-further (walks (j .merge)) (suc fuel) (j .state) (j .merge) (p .fits, omega arith))
+          let r′ : l .states ≤ walks l (j .merge) + fuel = rw (p .same) r in
+          holds-also (WalkedAtLeast l (walks l (j .merge))) Left (λ m″ (f, q). (f, omega arith)) (walk l g table (suc fuel) (j .state) (j .merge))
+          (walk-keeps-walked (walks l (j .merge)) (suc fuel) (j .state) (j .merge) (p .fits, omega arith))
       left m′ (refused why) p r = tt
 
       by-test : (t : Bool) → has (m .walked) s ≡ t → Later → walked-by l g table (suc larger) s m t ≡ walked-by l g table (suc fuel) s m t
@@ -221,4 +223,4 @@ module _ (l : Limits) (g : Grammar) (table : LaneTable) (rows : length table ≤
           (λ successor m. stepped l g table (suc fuel) (joinSuccessor l g table s successor m)) (successorsOf table m s)
           (λ successor among m′ (f′, r). agree m′ (joinSuccessor l g table s successor m′) (successor-joins s successor m′ f′ (successor-below m s successor among)) more r)
           (λ successor among m′ (f′, r). left m′ (joinSuccessor l g table s successor m′) (successor-joins s successor m′ f′ (successor-below m s successor among)) r)
-          (markWalked s m) (mark-walked-further 0 s m (h, omega arith) .0, omega (arith, mark-walked-counts s m b e))
+          (markWalked s m) (mark-walked-keeps l 0 s m (h, omega arith) .0, omega (arith, mark-walked-counts l s m b e))

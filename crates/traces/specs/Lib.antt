@@ -1,0 +1,2 @@
+pub mod Recorded
+pub mod Whole
