@@ -24,7 +24,7 @@ use Rattle.rules.specs.States.{Entry, State, closes, handsOn, itemCount}
 use Rattle.rules.specs.FinalCheck.{withSet, haveSet, giveSet, haveAt, giveAt, entryAt, moves, isBehindDot, closing, entryMoved, entryClosed, entrySettled, moveEntry, closeEntry, settleEntry, settleState, leastSettled, leastRound, leastBegun, leastSets}
 use Rattle.sets.specs.Size.{size}
 use Rattle.sets.proofs.Laws.{none-below, single-below, join-below, join-within, within-join, size-le, size-within, size-grows}
-use Rattle.knuth.proofs.Closures.{first1-narrow}
+use Rattle.knuth.proofs.Closures.{canonical-follows-narrow}
 
 module _ (n : ℕ) where
   -- ---- one state
@@ -202,7 +202,7 @@ module _ (g : Grammar) (states : List State) where
 
   closing-below : (e : Entry) → e .set < 2 ^ (n + 1) → closing g sets e < 2 ^ (n + 1)
   unfolding closing handsOn
-  closing-below e b = first1-narrow g (e .item + 1) (e .set) b
+  closing-below e b = canonical-follows-narrow g (e .item + 1) (e .set) b
 
   -- ---- entry k of state s hands on, with the set that it has by now
   module _ (s k : ℕ) (least : List State) (kept : Keeps n states least) where
