@@ -61,6 +61,10 @@ behind-closes g i s a =
     let (p, k) = both-true (not (atEnd g i)) (not (isTerminal (at g (i + 1)))) q in
     not-at-end-behind g i (not-true _ p) ∙ ap (λ (b : Bool). pick b (terminal (at g (i + 1) .symbol)) (nonterminal (at g (i + 1) .symbol)) ∷ symbolsBehind g (i + 1)) (not-true (isTerminal (at g (i + 1))) k)
 
+-- no set of a state has a token over n
+abbrev pub NarrowState : Grammar → State → Type 0
+NarrowState g state = (e : Entry) → Among e state → e .set < 2 ^ (terminalCount g + 1)
+
 module _ (g : Grammar) (follow : Follow) where
   abbrev n : ℕ
   n = terminalCount g
@@ -68,13 +72,9 @@ module _ (g : Grammar) (follow : Follow) where
   abbrev m : ℕ
   m = nonterminalCount g
 
-  -- what a closure hands on has no token over n
+  -- nor has what a closure hands on
   abbrev pub FollowsNarrow : Type 0
   FollowsNarrow = (i : ℕ) (s : TokenSet) → s < 2 ^ (n + 1) → follow (symbolsBehind g i) s < 2 ^ (n + 1)
-
-  -- and no set of a state has one
-  abbrev pub NarrowState : State → Type 0
-  NarrowState state = (e : Entry) → Among e state → e .set < 2 ^ (n + 1)
 
   -- left-side record i with the set of its nonterminal
   abbrev closeLeft : ℕ → Sets → Sets
@@ -135,21 +135,21 @@ module _ (g : Grammar) (follow : Follow) where
       adds = λ i k sets (l, s) e. close-item-adds i (setOf sets (at g i .symbol)) (s (at g i .symbol)) sets (l, s) e;
     }
 
-    close-kernel-keeps : (kernel : State) → NarrowState kernel → (sets : Sets) → InRange n m sets → InRange n m (closeKernel g follow kernel sets)
+    close-kernel-keeps : (kernel : State) → NarrowState g kernel → (sets : Sets) → InRange n m sets → InRange n m (closeKernel g follow kernel sets)
     unfolding closeKernel
     close-kernel-keeps kernel small = fold-keeps (λ e sets. closeItem g follow (e .item) (e .set) sets) (InRange n m) kernel (λ e k sets r. close-item-keeps (e .item) (e .set) (small e k) sets r)
 
-    begun-in-range : (kernel : State) → NarrowState kernel → InRange n m (closeKernel g follow kernel (replicate m 0))
+    begun-in-range : (kernel : State) → NarrowState g kernel → InRange n m (closeKernel g follow kernel (replicate m 0))
     begun-in-range kernel small = close-kernel-keeps kernel small (replicate m 0) (none-in-range n m)
 
     -- a closure of a kernel whose sets have no token over n is settled
-    pub closure-settled : (kernel : State) → NarrowState kernel → closureSettled g follow (closureSets g follow kernel) ≡ true
+    pub closure-settled : (kernel : State) → NarrowState g kernel → closureSettled g follow (closureSets g follow kernel) ≡ true
     unfolding closureSettled closureSets closeLeftSides setOf at
     closure-settled kernel small =
         rounds-end closeLeft leftClosed (mass n) (InRange n m)
         (leftSides g) steps (m * (n + 1)) (mass-in-range n m) (m * (n + 1)) (closeKernel g follow kernel (replicate m 0)) (begun-in-range kernel small) (omega arith)
 
-    pub closure-in-range : (kernel : State) → NarrowState kernel → InRange n m (closureSets g follow kernel)
+    pub closure-in-range : (kernel : State) → NarrowState g kernel → InRange n m (closureSets g follow kernel)
     unfolding closureSets closeLeftSides
     closure-in-range kernel small =
         rounds-keep (closureSettled g follow) closeLeft (InRange n m) (leftSides g) (steps .keeps)
@@ -169,7 +169,7 @@ module _ (g : Grammar) (follow : Follow) where
         (λ f k sets k′. close-item-grows (f .item) (f .set) sets (at g (e .item + 1) .symbol) u k′) (closeItem g follow (e .item) (e .set) sets) (close-item-has (e .item) (e .set) sets u a l h)
     close-kernel-has {e} (later {y = f} k) sets u a l h = close-kernel-has k (closeItem g follow (f .item) (f .set) sets) u a (close-item-length (f .item) (f .set) sets ∙ l) h
 
-    module _ (kernel : State) (small : NarrowState kernel) where
+    module _ (kernel : State) (small : NarrowState g kernel) where
       pub kernel-closed : {e : Entry} → Among e kernel → (u : ℕ) → closes g (e .item) (e .set) ≡ true
           → Has (handsOn g follow (e .item) (e .set)) u → Has (setOf (closureSets g follow kernel) (at g (e .item + 1) .symbol)) u
       unfolding closureSets closeLeftSides

@@ -19,7 +19,7 @@ use Rattle.rules.specs.Tokens.{TokenSet, Has, has, isEmptySet, eof}
 use Rattle.rules.specs.Grammar.{Symbol, nonterminal, atEnd, isBefore, symbolsBehind, leftSides, start, terminalCount}
 use Rattle.rules.specs.First.{Sets, setOf}
 use Rattle.rules.specs.Run.{Table}
-use Rattle.rules.specs.States.{Entry, State, closes, handsOn, closureSets, entryOf, kernelOver}
+use Rattle.rules.specs.States.{Entry, closes, handsOn, closureSets, entryOf, kernelOver}
 use Rattle.sets.proofs.Laws.{has-true, has-none, has-eof, single-below, some-token}
 use Rattle.knuth.specs.Rules.{Rule}
 use Rattle.knuth.specs.Meaning.{First}
@@ -129,10 +129,6 @@ module _ (l : Limits) (g : Grammar) (checked : Checked l g) where
     item : At (Rule g) S (n g) γ production left α (nonterminal B ∷ β) token
     first : First (Rule g) β token u
 
-  -- the tokens of a state's items are those of the items of γ
-  abbrev Sound : List Symbol → State → Type 0
-  Sound γ = OnlyItems (AtItem g γ)
-
   -- the productions of a nonterminal that a token is handed on to are at work
   left-side-sound : (γ : List Symbol) (i t : ℕ) → Among i (leftSides g) → Handed γ (at g i .symbol) t → AtItem g γ i t
   left-side-sound γ i t k a = record { left = at g i .symbol; α = []; item = close (a .item) (rule-of-left-side g i k) (a .first) }
@@ -154,11 +150,11 @@ module _ (l : Limits) (g : Grammar) (checked : Checked l g) where
         first = f;
       }
 
-  set-sound : (γ : List Symbol) → Sound γ (kernelAt g γ) → Sound γ (itemSet g γ)
+  set-sound : (γ : List Symbol) → OnlyItems (AtItem g γ) (kernelAt g γ) → OnlyItems (AtItem g γ) (itemSet g γ)
   unfolding itemSet
   set-sound γ sound = closure-only g (canonicalFollow g) (AtItem g γ) (Handed γ) (closes-sound γ) (left-side-sound γ) (kernelAt g γ) sound
 
-  moved-sound : (γ : List Symbol) (x : Symbol) → Sound γ (itemSet g γ) → Sound (x ∷ γ) (kernelOver g x (itemSet g γ))
+  moved-sound : (γ : List Symbol) (x : Symbol) → OnlyItems (AtItem g γ) (itemSet g γ) → OnlyItems (AtItem g (x ∷ γ)) (kernelOver g x (itemSet g γ))
   unfolding kernelOver
   moved-sound γ x sound e m t h =
       let (f, k, q) = map-among (λ (e : Entry). record { item = e .item + 1; next = 0; set = e .set }) _ m in
@@ -169,19 +165,19 @@ module _ (l : Limits) (g : Grammar) (checked : Checked l g) where
       rw q (record { left = i .left; α = x ∷ i .α; item = rw (same-production l g checked (f .item) (before-not-at-end g x (f .item) before)) (move read) })
 
   module _ (some : 0 < length g) where
-    start-sound : Sound [] (startKernel g)
+    start-sound : OnlyItems (AtItem g []) (startKernel g)
     unfolding startKernel start
     start-sound e m t h = ⊎-elim (λ q. rw q (begun (rw q at h))) (λ k. absurd (among-none k)) (among-cons m)
       where
         begun : Has (eof (n g)) t → AtItem g [] 0 t
         begun k = record { left = S; α = []; item = rw (has-eof (n g) t .0 k) (begin (rule-of-left-side g 0 (first-is-left-side l g checked some))) }
 
-    kernel-sound : (γ : List Symbol) → Sound γ (kernelAt g γ)
+    kernel-sound : (γ : List Symbol) → OnlyItems (AtItem g γ) (kernelAt g γ)
     unfolding kernelAt itemSet
     kernel-sound [] = start-sound
     kernel-sound (x ∷ γ) = moved-sound γ x (set-sound γ (kernel-sound γ))
 
-    pub items-sound : (γ : List Symbol) (e : Entry) → Among e (itemSet g γ) → (t : ℕ) → Has (e .set) t → AtItem g γ (e .item) t
+    pub items-sound : (γ : List Symbol) → OnlyItems (AtItem g γ) (itemSet g γ)
     items-sound γ = set-sound γ (kernel-sound γ)
 
     -- ---- so it is decided what a stack awaits and where it reduces

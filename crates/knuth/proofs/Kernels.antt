@@ -19,7 +19,7 @@ use Rattle.rules.specs.First.{Sets, setOf, joinAt}
 use Rattle.rules.specs.States.{Entry, State, Follow, closes, handsOn, closeItem, closeKernel, closeLeftSides, closureSettled, closureSets, entryOf, closure, kernelOver}
 use Rattle.sets.proofs.Laws.{has-none}
 use Rattle.sets.proofs.Tables.{joinAt-only}
-use Rattle.knuth.proofs.Closures.{FollowsNarrow, kernel-closed, left-side-closed, closure-in-range}
+use Rattle.knuth.proofs.Closures.{NarrowState, FollowsNarrow, kernel-closed, left-side-closed, closure-in-range}
 
 -- each set of a state has a token, and none over n
 abbrev pub ProperSets : Grammar → State → Type 0
@@ -65,7 +65,7 @@ module _ (g : Grammar) (follow : Follow) (kernel : State) where
         rw p (left-side-closed g follow narrow kernel small i k u (rw (p, s) at a) (rw (p, s) at h)))
         (closure-entry e m)
       where
-        small : (e : Entry) → Among e kernel → e .set < 2 ^ (terminalCount g + 1)
+        small : NarrowState g kernel
         small f k = proper f k .0
 
     pub closure-proper : ProperSets g (closure g follow kernel)
