@@ -23,9 +23,10 @@
 -- its right.
 --
 -- The paper words the handle twice: as the leftmost complete branch of a tree (Branches), and, as "an alternative way", by the derivation
--- that replaces the rightmost intermediate character at each step. The second is taken here. The first lets intermediate characters stand
--- right of the handle of β, and so refuses 0: S→C C t, 1: C→ε, which a parser reads without looking ahead at all: C t would have the
--- handles (1, 1) and (0, 1). That is proofs/TwoEmpty.antt.
+-- that replaces the rightmost intermediate character at each step. The second is taken here. Where no intermediate character stands right
+-- of the handle, as in α, the two agree (proofs/Handles.antt). But β's may end before the n-th symbol, and by the first wording with
+-- intermediate characters behind it: 0: S→C C t, 1: C→ε, which a parser reads without looking ahead at all, would not be LR(1), since C t
+-- would have the handles (1, 1) and (0, 1) (proofs/TwoEmpty.antt).
 use Prim.Native.Nat.{ℕ}
 use mathlib.Core.Path.{_≡_}
 use mathlib.Core.List.{List, [], _∷_, _++_}
