@@ -23,7 +23,8 @@ use Rattle.rules.specs.States.{Entry, State, Follow, closes, handsOn, entryOf, 
 use Rattle.sets.proofs.Laws.{some-token}
 use Rattle.knuth.specs.Coded.{Checked}
 use Rattle.knuth.specs.ItemSets.{canonicalFollow, startKernel, kernelAt, itemSet}
-use Rattle.knuth.proofs.ItemSets.{names-start-first, before-not-at-end}
+use Rattle.knuth.proofs.Dots.{before-not-at-end}
+use Rattle.knuth.proofs.Checked.{names-start-first}
 use Rattle.knuth.proofs.Kernels.{closure-sets-only}
 use Rattle.demands.proofs.Bare.{moved, unlinked, bare}
 

@@ -20,7 +20,7 @@ use Rattle.rules.specs.States.{Entry, State, Follow, closes, handsOn, entryOf, 
 use Rattle.rules.specs.Merge.{lanes}
 use Rattle.sets.proofs.Laws.{some-token, has-all, has-none, all-below}
 use Rattle.knuth.proofs.Closures.{closes-behind, behind-closes, lr0-follows-narrow}
-use Rattle.knuth.proofs.Kernels.{Good, kernel-in-closure, left-side-in-closure, closed-in-closure, closure-good, moved-good, closure-only}
+use Rattle.knuth.proofs.Kernels.{ProperSets, kernel-in-closure, left-side-in-closure, closed-in-closure, closure-proper, moved-proper, closure-only}
 use Rattle.walks.proofs.Outcomes.{Holds, holds-also}
 use Rattle.walks.proofs.Resolve.{lanes-keep}
 use Rattle.fuel.proofs.Visits.{Few}
@@ -58,11 +58,11 @@ module _ (g : Grammar) where
   hand xs s = s
 
   -- ---- closures
-  module _ (k : State) (good : Good g k) where
+  module _ (k : State) (good : ProperSets g k) where
     closure-opened : (Kernel : ℕ → Type 0) → ((e : Entry) → Among e k → Kernel (e .item)) → (e : Entry) → Among e (closure g hand k) → Opened g Kernel (e .item)
     unfolding handsOn
     closure-opened Kernel h e m =
-        let (t, a) = some-token (e .set) (closure-good g hand k (lr0-follows-narrow g) good e m .1) in
+        let (t, a) = some-token (e .set) (closure-proper g hand k (lr0-follows-narrow g) good e m .1) in
         closure-only g hand (λ i t. Opened g Kernel i) Asked asking (λ i t among (j, o, b). opens o b among) k (λ f n u b. kernel (h f n)) e m t a
       where
         Asked : ℕ → ℕ → Type 0
@@ -76,7 +76,7 @@ module _ (g : Grammar) where
     closure-closed i j B β m b among same =
         let (e, n, q) = map-among (λ (e : Entry). e .item) (closure g hand k) m in
         let b′ : symbolsBehind g (e .item) ≡ nonterminal B ∷ β = ap (symbolsBehind g) (sym q) ∙ b in
-        let some : e .set ≡ 0 → ⊥ = closure-good g hand k (lr0-follows-narrow g) good e n .1 in
+        let some : e .set ≡ 0 → ⊥ = closure-proper g hand k (lr0-follows-narrow g) good e n .1 in
         let (a, is, _) = closes-behind g (e .item) (e .set) B b′ some in
         let (t, h) = some-token (e .set) some in
         let here : Has (setOf (closureSets g hand k) (at g i .symbol)) t =
@@ -90,15 +90,15 @@ module _ (g : Grammar) where
   abbrev pub begin : State
   begin = record { item = 0; next = 0; set = all (terminalCount g) } ∷ []
 
-  begin-good : Good g begin
+  begin-good : ProperSets g begin
   begin-good e m =
       ⊎-elim (λ q. rw q (all-below (terminalCount g), λ z. has-none 0 (rw z at (has-all (terminalCount g) 0 .1 (omega arith))))) (λ k. absurd (among-none k)) (among-cons m)
 
-  good-on : (k : State) → Good g k → (x : Symbol) → Good g (kernelOver g x (closure g hand k))
-  good-on k good x = moved-good g x (closure g hand k) (closure-good g hand k (lr0-follows-narrow g) good)
+  good-on : (k : State) → ProperSets g k → (x : Symbol) → ProperSets g (kernelOver g x (closure g hand k))
+  good-on k good x = moved-proper g x (closure g hand k) (closure-proper g hand k (lr0-follows-narrow g) good)
 
   abbrev LR0Automaton : Limits → List State → List State → Type 0
-  LR0Automaton l = Automaton l g hand begin (Good g) good-on
+  LR0Automaton l = Automaton l g hand begin (ProperSets g) good-on
 
   core-bare : (state : State) → core (bare state) ≡ core state
   core-bare state = core-changed unlinked (λ e. refl) state
@@ -124,7 +124,7 @@ module _ (g : Grammar) where
     moves : (s t : ℕ) (x : Symbol) → s < length states → t < length states → getD kernels t [] ≡ kernelOver g x (getD states s []) → Moves (core (getD states s [])) x (core (getD states t []))
     moves s t x b b′ q =
         let K : State = kernelOver g x (getD states s []) in
-        let good : Good g K = rw q at (auto .mades t b′) in
+        let good : ProperSets g K = rw q at (auto .mades t b′) in
         let there : core (getD states t []) ≡ core (closure g hand K) = state-core t b′ ∙ ap (λ (k : State). core (closure g hand k)) q in
         rw there (record {
           has = λ i m p.
@@ -157,17 +157,17 @@ module _ (g : Grammar) where
 
   -- ---- lane mode
   module _ (l : Limits) (room : 0 < l .states) where
-    lr0-states-done : Holds (Done l g hand begin (Good g) good-on) (lr0States l g)
+    lr0-states-done : Holds (Done l g hand begin (ProperSets g) good-on) (lr0States l g)
     unfolding lr0States statesFrom
     lr0-states-done =
-        collection-linked l g hand begin (Good g) good-on room (λ f m. ⊎-elim (λ q. ap (λ (e : Entry). e .next) q) (λ k. absurd (among-none k)) (among-cons m)) begin-good
+        collection-linked l g hand begin (ProperSets g) good-on room (λ f m. ⊎-elim (λ q. ap (λ (e : Entry). e .next) q) (λ k. absurd (among-none k)) (among-cons m)) begin-good
 
     lr0-states-linked : Holds (Linked g Begins Closed Moves) (lr0States l g)
     lr0-states-linked =
-        holds-also (Done l g hand begin (Good g) good-on) (Linked g Begins Closed Moves) (λ states (kernels, auto). lr0-linked l kernels states auto) (lr0States l g) lr0-states-done
+        holds-also (Done l g hand begin (ProperSets g) good-on) (Linked g Begins Closed Moves) (λ states (kernels, auto). lr0-linked l kernels states auto) (lr0States l g) lr0-states-done
 
     pub lr0-states-few : Holds (Few l g) (lr0States l g)
-    lr0-states-few = holds-also (Done l g hand begin (Good g) good-on) (Few l g) (λ states (kernels, auto). auto .few) (lr0States l g) lr0-states-done
+    lr0-states-few = holds-also (Done l g hand begin (ProperSets g) good-on) (Few l g) (λ states (kernels, auto). auto .few) (lr0States l g) lr0-states-done
 
     pub lanes-linked : Holds (Linked g Begins Closed Moves) (lanes l g)
     lanes-linked = lanes-keep l g (Linked g Begins Closed Moves) (resolve-linked g Begins Closed Moves none-closed l (firstSets g)) lr0-states-linked

@@ -20,13 +20,13 @@ use Rattle.rules.specs.FinalCheck.{haveSet, haveAt, moves, isBehindDot, closing
 use Rattle.sets.proofs.Laws.{has-none, within-true}
 use Rattle.knuth.specs.Coded.{Checked}
 use Rattle.knuth.specs.Entries.{HasItem}
-use Rattle.knuth.specs.Items.{At, start as begin, move, close}
+use Rattle.knuth.specs.Items.{At, begin, move, close}
 use Rattle.knuth.specs.Meaning.{First}
 use Rattle.knuth.specs.Rules.{Rule}
 use Rattle.knuth.proofs.Closures.{closes-behind}
-use Rattle.knuth.proofs.Dots.{symbol-behind}
+use Rattle.knuth.proofs.Dots.{symbol-behind, before-not-at-end}
 use Rattle.knuth.proofs.FirstSets.{first-behind-dot}
-use Rattle.knuth.proofs.ItemSets.{same-production, start-is-first, before-not-at-end}
+use Rattle.knuth.proofs.Checked.{same-production, start-is-first}
 use Rattle.knuth.proofs.Productions.{left-side-of-rule}
 use Rattle.runs.specs.Good.{Reach, at-bottom, over}
 use Rattle.demands.proofs.Bare.{core}

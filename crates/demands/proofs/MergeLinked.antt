@@ -24,7 +24,7 @@ use Rattle.rules.specs.First.{Sets}
 use Rattle.rules.specs.States.{Entry, State, Outcome, done, refused, itemCount}
 use Rattle.rules.specs.Lanes.{Action, LaneTable, laneTable}
 use Rattle.rules.specs.Merge.{Merge, originOf, canJoin, joinGroups, clonesOf, cloneState, patchLinks, markWalked, joined, joinNew, placeJoining, withNew, joinSuccessor, successorsOf, walk, takeColumn, takeColumns, mergeBegun, resolve}
-use Rattle.knuth.proofs.ItemSets.{before-not-at-end}
+use Rattle.knuth.proofs.Dots.{before-not-at-end}
 use Rattle.walks.proofs.Outcomes.{Holds, holds-pick}
 use Rattle.walks.proofs.Resolve.{resolve-keeps}
 use Rattle.traces.proofs.Rows.{lane-table-rows}

@@ -28,8 +28,8 @@ use Rattle.sets.proofs.Laws.{has-none, has-eof, has-join}
 use Rattle.knuth.specs.Coded.{Checked, NonterminalsLeft}
 use Rattle.knuth.specs.Rules.{Rule}
 use Rattle.knuth.proofs.Coded.{checked-left}
-use Rattle.knuth.proofs.Dots.{before-behind, not-at-end-behind}
-use Rattle.knuth.proofs.ItemSets.{names-start-first, before-not-at-end, same-production}
+use Rattle.knuth.proofs.Dots.{before-behind, not-at-end-behind, before-not-at-end}
+use Rattle.knuth.proofs.Checked.{names-start-first, same-production}
 use Rattle.knuth.proofs.Productions.{rule-of-left-side, nonterminal-record}
 use Rattle.traces.proofs.Trace.{Kept, both-keep}
 use Rattle.runs.proofs.Rules.{first-record, zero-has-start}

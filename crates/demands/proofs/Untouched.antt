@@ -19,7 +19,7 @@ use Rattle.rules.specs.First.{setOf}
 use Rattle.rules.specs.States.{Entry, State, closes, handsOn, entryOf, closureSets, closure, kernelOver, statesFrom, lr0States}
 use Rattle.sets.proofs.Laws.{same-tokens, some-token, has-all, has-none, has-below, all-below}
 use Rattle.knuth.proofs.Closures.{closes-behind, behind-closes, lr0-follows-narrow}
-use Rattle.knuth.proofs.Kernels.{Good, closure-entry, kernel-in-closure, left-side-in-closure, closed-in-closure, closure-good, closure-sets-only}
+use Rattle.knuth.proofs.Kernels.{ProperSets, closure-entry, kernel-in-closure, left-side-in-closure, closed-in-closure, closure-proper, closure-sets-only}
 use Rattle.walks.proofs.Outcomes.{Holds, holds-also}
 use Rattle.demands.proofs.Bare.{unlinked, moved}
 use Rattle.demands.proofs.Collection.{Done, collection-linked}
@@ -33,7 +33,7 @@ module _ (g : Grammar) where
   abbrev Full : TokenSet → Type 0
   Full s = (t : ℕ) → t ≤ n → Has s t
 
-  all-good : (k : State) → Untouched g k → Good g k
+  all-good : (k : State) → Untouched g k → ProperSets g k
   all-good k h e m = rw (h e m) (all-below n, λ z. has-none 0 (rw z at (has-all n 0 .1 (omega arith))))
 
   module _ (k : State) (untouched : Untouched g k) where
@@ -70,7 +70,7 @@ module _ (g : Grammar) where
         let (u, h) = some-token (setOf (closureSets g (hand g) k) (at g i .symbol)) (λ z. some (s ∙ z)) in
         let full : Full (e .set) = rw s (sets-full (at g i .symbol) u h) in
         same-tokens (e .set) (all n) (λ t. (
-          (λ h. has-all n t .1 (let b = has-below (n + 1) (e .set) t (closure-good g (hand g) k (lr0-follows-narrow g) (all-good k untouched) e m .0) h in omega arith)),
+          (λ h. has-all n t .1 (let b = has-below (n + 1) (e .set) t (closure-proper g (hand g) k (lr0-follows-narrow g) (all-good k untouched) e m .0) h in omega arith)),
           (λ h. full t (has-all n t .0 h)),
         )))
         (closure-entry g (hand g) k e m)

@@ -27,7 +27,7 @@ use Rattle.rules.specs.declared.BuildRefusal.the-variants.{Conflicts}
 use Rattle.rules.specs.declared.RunEnd.the-variants.{StackFull}
 use Rattle.sets.proofs.Laws.{single-below, all-below}
 use Rattle.knuth.specs.Coded.{Checked}
-use Rattle.knuth.proofs.Coded.{checked, checked-left, coded-has-a-record}
+use Rattle.knuth.proofs.Coded.{coded-is-checked, checked-left, coded-has-a-record}
 use Rattle.knuth.proofs.Productions.{left-below}
 use Rattle.knuth.proofs.FirstSettles.{first-sets-settled}
 use Rattle.knuth.proofs.Closures.{FollowsNarrow, closure-settled, lr0-follows-narrow, canonical-follows-narrow}
@@ -163,7 +163,7 @@ unfolding eof
 enough l room bytes coded =
     let g : Grammar = records bytes in
     let n : ℕ = terminalCount g in
-    let fine : Checked l g = checked l bytes coded in
+    let fine : Checked l g = coded-is-checked l bytes coded in
     let some : 0 < length g = coded-has-a-record l bytes coded in
     record {
       collected = productive-enough l g fine;

@@ -19,7 +19,7 @@ use Rattle.rules.specs.First.{Sets, firstSets}
 use Rattle.rules.specs.States.{Entry, State, closes, handsOn, itemCount}
 use Rattle.rules.specs.FinalCheck.{withSet, entryAt, moves, isBehindDot, closing, entryMoved, entryClosed, entrySettled, moveEntry, closeEntry, settleEntry, settleState, leastSettled, leastRound, leastBegun, leastSets}
 use Rattle.sets.proofs.Laws.{none-below, single-below}
-use Rattle.knuth.proofs.Closures.{first1-narrow}
+use Rattle.knuth.proofs.Closures.{canonical-follows-narrow}
 use Rattle.fuel.proofs.Giving.{Alike, leastMass, least-mass-le, give-at-keeps, given-keeps, given-rests, given-adds, given-stays, emptied-alike}
 
 -- ---- the rounds, over the states of a grammar
@@ -32,7 +32,7 @@ module _ (g : Grammar) (states : List State) where
 
   closing-below : (e : Entry) → e .set < 2 ^ (n + 1) → closing g sets e < 2 ^ (n + 1)
   unfolding closing handsOn
-  closing-below e b = first1-narrow g (e .item + 1) (e .set) b
+  closing-below e b = canonical-follows-narrow g (e .item + 1) (e .set) b
 
   -- ---- entry k of state s hands on, with the set that it has by now
   module _ (s k : ℕ) (least : List State) (kept : Alike n states least) where

@@ -1,6 +1,6 @@
 -- The rounds of a closure end: one that is not the last adds one of n + 1 tokens to one of m sets. So the closure that `rules` computes
--- has all that its items ask for.
-use Prim.Native.Nat.{ℕ, _+_, _*_, _^_, _<_, _≤_}
+-- has all that its items hand on.
+use Prim.Native.Nat.{ℕ, _+_, _*_, _^_, _<_}
 use mathlib.Core.Path.{_≡_, refl, sym, ap, _∙_}
 use mathlib.Core.Bool.{Bool, true, false, _&&_, _||_, not, true≢false}
 use mathlib.Core.List.{List, _∷_, nil≢cons, head-eq-of-cons-eq, tail-eq-of-cons-eq}
@@ -20,7 +20,8 @@ use Rattle.rules.specs.Grammar.{Symbol, nonterminal, terminal, symbolOf, atEnd,
 use Rattle.rules.specs.First.{Sets, setOf, joinAt, first0, beginning, mayBeEmpty, first1, addFirst, firstSettled, firstSets}
 use Rattle.rules.specs.States.{Entry, State, Follow, closes, handsOn, closeItem, itemClosed, closeKernel, closeLeftSides, closureSettled, closureSets}
 use Rattle.sets.proofs.Laws.{within-true, none-below, join-below, without-below}
-use Rattle.sets.proofs.Tables.{Grows, joinAt-grows, joinAt-has, Narrow, mass, mass-le, joinAt-rests, joinAt-adds, joinAt-narrow, joinAt-length}
+use Rattle.sets.proofs.Tables.{Grows, joinAt-grows, joinAt-has, joinAt-length, Narrow, mass, joinAt-rests, joinAt-adds, joinAt-narrow, InRange, none-in-range, joinAt-in-range, mass-in-range}
+use Rattle.knuth.specs.ItemSets.{canonicalFollow}
 use Rattle.knuth.proofs.Productions.{terminals-below, nonterminal-record}
 use Rattle.knuth.proofs.Dots.{at-end-behind, not-at-end-behind}
 use Rattle.knuth.proofs.FirstSettles.{first0-narrow}
@@ -44,7 +45,7 @@ closes-below g i s e = by-tests (isEmptySet s) (atEnd g i) (isTerminal (at g (i 
     by-tests false false true p q h = absurd (true≢false (sym h))
     by-tests false false false p q h = nonterminal-counted-at g (i + 1) (not-at-end-within g i p) q
 
--- an item asks exactly if it has a token and a nonterminal stands behind its dot
+-- an item closes exactly if it has a token and a nonterminal stands behind its dot
 pub closes-behind : (g : Grammar) (i : ℕ) (s : TokenSet) (B : ℕ) {β : List Symbol} → symbolsBehind g i ≡ nonterminal B ∷ β → (s ≡ 0 → ⊥)
     → (closes g i s ≡ true) × (at g (i + 1) .symbol ≡ B) × (symbolsBehind g (i + 1) ≡ β)
 unfolding closes isEmptySet
@@ -60,6 +61,10 @@ behind-closes g i s a =
     let (p, k) = both-true (not (atEnd g i)) (not (isTerminal (at g (i + 1)))) q in
     not-at-end-behind g i (not-true _ p) ∙ ap (λ (b : Bool). pick b (terminal (at g (i + 1) .symbol)) (nonterminal (at g (i + 1) .symbol)) ∷ symbolsBehind g (i + 1)) (not-true (isTerminal (at g (i + 1))) k)
 
+-- no set of a state has a token over n
+abbrev pub NarrowState : Grammar → State → Type 0
+NarrowState g state = (e : Entry) → Among e state → e .set < 2 ^ (terminalCount g + 1)
+
 module _ (g : Grammar) (follow : Follow) where
   abbrev n : ℕ
   n = terminalCount g
@@ -67,13 +72,18 @@ module _ (g : Grammar) (follow : Follow) where
   abbrev m : ℕ
   m = nonterminalCount g
 
-  -- what a closure hands on has no token over n
+  -- nor has what a closure hands on
   abbrev pub FollowsNarrow : Type 0
   FollowsNarrow = (i : ℕ) (s : TokenSet) → s < 2 ^ (n + 1) → follow (symbolsBehind g i) s < 2 ^ (n + 1)
 
-  abbrev InRange : Sets → Type 0
-  InRange sets = (length sets ≡ m) × Narrow n sets
+  -- left-side record i with the set of its nonterminal
+  abbrev closeLeft : ℕ → Sets → Sets
+  closeLeft i sets = closeItem g follow i (setOf sets (at g i .symbol)) sets
 
+  abbrev leftClosed : ℕ → Sets → Bool
+  leftClosed i sets = itemClosed g follow sets i (setOf sets (at g i .symbol))
+
+  -- ---- one item
   close-item-grows : (i : ℕ) (s : TokenSet) (sets : Sets) → Grows sets (closeItem g follow i s sets)
   unfolding closeItem
   close-item-grows i s sets = by-test (closes g i s)
@@ -87,17 +97,17 @@ module _ (g : Grammar) (follow : Follow) where
   close-item-length i s sets = by-test (closes g i s)
     where
       by-test : (d : Bool) → length (pick d (joinAt (at g (i + 1) .symbol) (handsOn g follow i s) sets) sets) ≡ length sets
-      by-test true = joinAt-length n _ _ sets
+      by-test true = joinAt-length _ _ sets
       by-test false = refl
 
   module _ (narrow : FollowsNarrow) where
-    close-item-keeps : (i : ℕ) (s : TokenSet) → s < 2 ^ (n + 1) → (sets : Sets) → InRange sets → InRange (closeItem g follow i s sets)
+    close-item-keeps : (i : ℕ) (s : TokenSet) → s < 2 ^ (n + 1) → (sets : Sets) → InRange n m sets → InRange n m (closeItem g follow i s sets)
     unfolding closeItem
-    close-item-keeps i s b sets (l, h) = by-test (closes g i s)
+    close-item-keeps i s b sets r = by-test (closes g i s)
       where
-        by-test : (d : Bool) → InRange (pick d (joinAt (at g (i + 1) .symbol) (handsOn g follow i s) sets) sets)
-        by-test true = (joinAt-length n _ _ sets ∙ l, joinAt-narrow n _ _ sets (narrow (i + 1) s b) h)
-        by-test false = (l, h)
+        by-test : (d : Bool) → InRange n m (pick d (joinAt (at g (i + 1) .symbol) (handsOn g follow i s) sets) sets)
+        by-test true = joinAt-in-range n m _ _ sets (narrow (i + 1) s b) r
+        by-test false = r
 
     close-item-rests : (i : ℕ) (s : TokenSet) (sets : Sets) → itemClosed g follow sets i s ≡ true → closeItem g follow i s sets ≡ sets
     unfolding closeItem itemClosed
@@ -108,7 +118,7 @@ module _ (g : Grammar) (follow : Follow) where
         by-test true e = joinAt-rests n _ _ sets e
         by-test false e = refl
 
-    close-item-adds : (i : ℕ) (s : TokenSet) → s < 2 ^ (n + 1) → (sets : Sets) → InRange sets → itemClosed g follow sets i s ≡ false
+    close-item-adds : (i : ℕ) (s : TokenSet) → s < 2 ^ (n + 1) → (sets : Sets) → InRange n m sets → itemClosed g follow sets i s ≡ false
         → mass n sets < mass n (closeItem g follow i s sets)
     unfolding closeItem itemClosed
     close-item-adds i s b sets (l, h) e = by-test (closes g i s) refl e
@@ -118,65 +128,62 @@ module _ (g : Grammar) (follow : Follow) where
         by-test true a e = joinAt-adds n _ _ sets (rw l (closes-below g i s a)) (narrow (i + 1) s b) e
         by-test false a e = absurd (true≢false e)
 
-    steps : Steps (λ i sets. closeItem g follow i (setOf sets (at g i .symbol)) sets) (λ i sets. itemClosed g follow sets i (setOf sets (at g i .symbol))) (mass n) InRange (leftSides g)
+    steps : Steps closeLeft leftClosed (mass n) (InRange n m) (leftSides g)
     steps = record {
       keeps = λ i k sets (l, s). close-item-keeps i (setOf sets (at g i .symbol)) (s (at g i .symbol)) sets (l, s);
       rests = λ i k sets s e. close-item-rests i (setOf sets (at g i .symbol)) sets e;
       adds = λ i k sets (l, s) e. close-item-adds i (setOf sets (at g i .symbol)) (s (at g i .symbol)) sets (l, s) e;
     }
 
-    entries-keep : (kernel : State) → ((e : Entry) → Among e kernel → e .set < 2 ^ (n + 1)) → (sets : Sets) → InRange sets → InRange (closeKernel g follow kernel sets)
+    close-kernel-keeps : (kernel : State) → NarrowState g kernel → (sets : Sets) → InRange n m sets → InRange n m (closeKernel g follow kernel sets)
     unfolding closeKernel
-    entries-keep kernel small = fold-keeps (λ e sets. closeItem g follow (e .item) (e .set) sets) InRange kernel (λ e k sets r. close-item-keeps (e .item) (e .set) (small e k) sets r)
+    close-kernel-keeps kernel small = fold-keeps (λ e sets. closeItem g follow (e .item) (e .set) sets) (InRange n m) kernel (λ e k sets r. close-item-keeps (e .item) (e .set) (small e k) sets r)
 
-    begun-in-range : (kernel : State) → ((e : Entry) → Among e kernel → e .set < 2 ^ (n + 1)) → InRange (closeKernel g follow kernel (replicate m 0))
-    unfolding setOf
-    begun-in-range kernel small = entries-keep kernel small (replicate m 0) (length-replicate m 0, λ a. rw (at-replicate {A = ℕ} m 0 a) (none-below (n + 1)))
+    begun-in-range : (kernel : State) → NarrowState g kernel → InRange n m (closeKernel g follow kernel (replicate m 0))
+    begun-in-range kernel small = close-kernel-keeps kernel small (replicate m 0) (none-in-range n m)
 
     -- a closure of a kernel whose sets have no token over n is settled
-    pub closure-settled : (kernel : State) → ((e : Entry) → Among e kernel → e .set < 2 ^ (n + 1)) → closureSettled g follow (closureSets g follow kernel) ≡ true
+    pub closure-settled : (kernel : State) → NarrowState g kernel → closureSettled g follow (closureSets g follow kernel) ≡ true
     unfolding closureSettled closureSets closeLeftSides setOf at
     closure-settled kernel small =
-        let bounded : (sets : Sets) → InRange sets → mass n sets ≤ m * (n + 1) =
-        λ sets i. omega (arith, mass-le n sets, ap (λ (k : ℕ). k * (n + 1)) (i .0)) in
-        rounds-end (λ i sets. closeItem g follow i (setOf sets (at g i .symbol)) sets) (λ i sets. itemClosed g follow sets i (setOf sets (at g i .symbol))) (mass n) InRange
-        (leftSides g) steps (m * (n + 1)) bounded (m * (n + 1)) (closeKernel g follow kernel (replicate m 0)) (begun-in-range kernel small) (omega arith)
+        rounds-end closeLeft leftClosed (mass n) (InRange n m)
+        (leftSides g) steps (m * (n + 1)) (mass-in-range n m) (m * (n + 1)) (closeKernel g follow kernel (replicate m 0)) (begun-in-range kernel small) (omega arith)
 
-    pub closure-in-range : (kernel : State) → ((e : Entry) → Among e kernel → e .set < 2 ^ (n + 1)) → InRange (closureSets g follow kernel)
+    pub closure-in-range : (kernel : State) → NarrowState g kernel → InRange n m (closureSets g follow kernel)
     unfolding closureSets closeLeftSides
     closure-in-range kernel small =
-        rounds-keep (closureSettled g follow) (λ i sets. closeItem g follow i (setOf sets (at g i .symbol)) sets) InRange (leftSides g) (steps .keeps)
+        rounds-keep (closureSettled g follow) closeLeft (InRange n m) (leftSides g) (steps .keeps)
         (m * (n + 1)) (closeKernel g follow kernel (replicate m 0)) (begun-in-range kernel small)
 
-    -- ---- what an item asks for is there
+    -- ---- what an item hands on is there
     close-item-has : (i : ℕ) (s : TokenSet) (sets : Sets) (u : ℕ) → closes g i s ≡ true → length sets ≡ m → Has (handsOn g follow i s) u
         → Has (setOf (closeItem g follow i s sets) (at g (i + 1) .symbol)) u
     unfolding closeItem
     close-item-has i s sets u a l h = rw a (joinAt-has (at g (i + 1) .symbol) (handsOn g follow i s) sets u (rw l (closes-below g i s a)) h)
 
-    entries-have : {e : Entry} {kernel : State} → Among e kernel → (sets : Sets) (u : ℕ) → closes g (e .item) (e .set) ≡ true → length sets ≡ m
+    close-kernel-has : {e : Entry} {kernel : State} → Among e kernel → (sets : Sets) (u : ℕ) → closes g (e .item) (e .set) ≡ true → length sets ≡ m
         → Has (handsOn g follow (e .item) (e .set)) u → Has (setOf (closeKernel g follow kernel sets) (at g (e .item + 1) .symbol)) u
     unfolding closeKernel foldOver
-    entries-have {e} (here {xs = es}) sets u a l h =
+    close-kernel-has {e} (here {xs = es}) sets u a l h =
         fold-keeps (λ f sets. closeItem g follow (f .item) (f .set) sets) (λ sets. Has (setOf sets (at g (e .item + 1) .symbol)) u) es
         (λ f k sets k′. close-item-grows (f .item) (f .set) sets (at g (e .item + 1) .symbol) u k′) (closeItem g follow (e .item) (e .set) sets) (close-item-has (e .item) (e .set) sets u a l h)
-    entries-have {e} (later {y = f} k) sets u a l h = entries-have k (closeItem g follow (f .item) (f .set) sets) u a (close-item-length (f .item) (f .set) sets ∙ l) h
+    close-kernel-has {e} (later {y = f} k) sets u a l h = close-kernel-has k (closeItem g follow (f .item) (f .set) sets) u a (close-item-length (f .item) (f .set) sets ∙ l) h
 
-    module _ (kernel : State) (small : (e : Entry) → Among e kernel → e .set < 2 ^ (n + 1)) where
-      pub kernel-answered : {e : Entry} → Among e kernel → (u : ℕ) → closes g (e .item) (e .set) ≡ true
+    module _ (kernel : State) (small : NarrowState g kernel) where
+      pub kernel-closed : {e : Entry} → Among e kernel → (u : ℕ) → closes g (e .item) (e .set) ≡ true
           → Has (handsOn g follow (e .item) (e .set)) u → Has (setOf (closureSets g follow kernel) (at g (e .item + 1) .symbol)) u
       unfolding closureSets closeLeftSides
-      kernel-answered {e} k u a h =
-          rounds-keep (closureSettled g follow) (λ i sets. closeItem g follow i (setOf sets (at g i .symbol)) sets) (λ sets. Has (setOf sets (at g (e .item + 1) .symbol)) u) (leftSides g)
+      kernel-closed {e} k u a h =
+          rounds-keep (closureSettled g follow) closeLeft (λ sets. Has (setOf sets (at g (e .item + 1) .symbol)) u) (leftSides g)
           (λ i j sets k′. close-item-grows i (setOf sets (at g i .symbol)) sets (at g (e .item + 1) .symbol) u k′)
-          (m * (n + 1)) (closeKernel g follow kernel (replicate m 0)) (entries-have k (replicate m 0) u a (length-replicate m 0) h)
+          (m * (n + 1)) (closeKernel g follow kernel (replicate m 0)) (close-kernel-has k (replicate m 0) u a (length-replicate m 0) h)
 
-      pub left-side-answered : (i : ℕ) → Among i (leftSides g) → (u : ℕ) → closes g i (setOf (closureSets g follow kernel) (at g i .symbol)) ≡ true
+      pub left-side-closed : (i : ℕ) → Among i (leftSides g) → (u : ℕ) → closes g i (setOf (closureSets g follow kernel) (at g i .symbol)) ≡ true
           → Has (handsOn g follow i (setOf (closureSets g follow kernel) (at g i .symbol))) u → Has (setOf (closureSets g follow kernel) (at g (i + 1) .symbol)) u
       unfolding closureSettled itemClosed
-      left-side-answered i k u a h =
+      left-side-closed i k u a h =
           let sets : Sets = closureSets g follow kernel in
-          let each = each-true (λ i. itemClosed g follow sets i (setOf sets (at g i .symbol))) k (closure-settled kernel small) in
+          let each = each-true (λ i. leftClosed i sets) k (closure-settled kernel small) in
           within-true _ _ .0 (implied-true (closes g i (setOf sets (at g i .symbol))) _ each a) u h
 
 -- ---- the two modes
@@ -192,10 +199,9 @@ first-sets-narrow g =
     (λ i k sets s. joinAt-narrow n (at g i .symbol) (first0 n sets (symbolsBehind g i)) sets (first0-narrow n sets s (symbolsBehind g i) (terminals-below g i)) s)
     (m * (n + 1)) (replicate m 0) (λ a. rw (at-replicate {A = ℕ} m 0 a) (none-below (n + 1)))
 
-pub first1-narrow : (g : Grammar) (i : ℕ) (s : TokenSet) → s < 2 ^ (terminalCount g + 1)
-    → first1 (terminalCount g) (firstSets g) (symbolsBehind g i) s < 2 ^ (terminalCount g + 1)
+pub canonical-follows-narrow : (g : Grammar) → FollowsNarrow g (canonicalFollow g)
 unfolding first1 beginning mayBeEmpty
-first1-narrow g i s b = by-mark (has first n)
+canonical-follows-narrow g i s b = by-mark (has first n)
   where
     n : ℕ
     n = terminalCount g
@@ -209,6 +215,3 @@ first1-narrow g i s b = by-mark (has first n)
     by-mark : (d : Bool) → pick d (join (without first n) s) first < 2 ^ (n + 1)
     by-mark true = join-below (n + 1) _ _ (without-below (n + 1) first n small) b
     by-mark false = small
-
-pub canonical-follows-narrow : (g : Grammar) → FollowsNarrow g (first1 (terminalCount g) (firstSets g))
-canonical-follows-narrow g = first1-narrow g

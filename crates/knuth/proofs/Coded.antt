@@ -35,9 +35,9 @@ passed false r x y ne e = (refl, e)
 not-coded : (r : GrammarRefusal) → Refused r ≡ Coded → ⊥
 not-coded r e = let z : _≡_ {A = ℕ} 0 1 = cc in omega arith
 
-pub checked : (l : Limits) (bytes : List ℕ) → grammarAnswer l bytes ≡ Coded → Checked l (records bytes)
+pub coded-is-checked : (l : Limits) (bytes : List ℕ) → grammarAnswer l bytes ≡ Coded → Checked l (records bytes)
 unfolding grammarAnswer firstFault firstStart firstWithout firstBarren
-checked l bytes e =
+coded-is-checked l bytes e =
     let g : Grammar = records bytes in
     let m : ℕ = nonterminalCount g in
     let (_, e₃) = passed (badLength l bytes) _ _ _ (not-coded _) e in

@@ -11,7 +11,7 @@ use Rattle.base.specs.Lists.{eachOf}
 use Rattle.base.proofs.Lists.{each-true}
 use Rattle.base.proofs.Until.{Steps, rounds-keep, rounds-end}
 use Rattle.rules.specs.Records.{Grammar, at}
-use Rattle.rules.specs.Tokens.{TokenSet, Has, has, single, join}
+use Rattle.rules.specs.Tokens.{NumberSet, Has, has, single, join}
 use Rattle.rules.specs.Grammar.{Symbol, nonterminal, terminal, symbolsBehind, leftSides, nonterminalCount, symbolDerives, sideDerives, collect, allCollected, productive}
 use Rattle.sets.specs.Size.{size}
 use Rattle.sets.proofs.Laws.{has-true, has-none, has-single, has-join, within-single, single-below, join-within, size-le, size-grows}
@@ -24,10 +24,10 @@ use Rattle.knuth.proofs.Productions.{rule-of-left-side, left-side-of-ru
 
 module _ (g : Grammar) where
   -- ---- sound: what is collected derives tokens
-  abbrev Sound : TokenSet → Type 0
-  Sound found = (a : ℕ) → Has found a → DerivesTokens (Rule g) (nonterminal a ∷ [])
+  abbrev AllDerive : NumberSet → Type 0
+  AllDerive found = (a : ℕ) → Has found a → DerivesTokens (Rule g) (nonterminal a ∷ [])
 
-  fruitful-side : (found : TokenSet) → Sound found → (xs : List Symbol) → eachOf (symbolDerives found) xs ≡ true → Fruitful (Rule g) xs
+  fruitful-side : (found : NumberSet) → AllDerive found → (xs : List Symbol) → eachOf (symbolDerives found) xs ≡ true → Fruitful (Rule g) xs
   unfolding eachOf symbolDerives
   fruitful-side found s [] e = tt
   fruitful-side found s (terminal t ∷ xs) e = fruitful-side found s xs e
@@ -38,24 +38,24 @@ module _ (g : Grammar) where
       by-first true f e more = (s a (has-true found a .0 f), more e)
       by-first false f e more = absurd (false≢true e)
 
-  sound-collect : (i : ℕ) → Among i (leftSides g) → (found : TokenSet) → Sound found → Sound (collect g i found)
+  collect-derives : (i : ℕ) → Among i (leftSides g) → (found : NumberSet) → AllDerive found → AllDerive (collect g i found)
   unfolding collect sideDerives
-  sound-collect i m found s = by-test (eachOf (symbolDerives found) (symbolsBehind g i)) refl
+  collect-derives i m found s = by-test (eachOf (symbolDerives found) (symbolsBehind g i)) refl
     where
       new : eachOf (symbolDerives found) (symbolsBehind g i) ≡ true → DerivesTokens (Rule g) (nonterminal (at g i .symbol) ∷ [])
       new e = left-side-derives-tokens (Rule g) (rule-of-left-side g i m) (fruitful-side found s (symbolsBehind g i) e)
 
-      by-test : (b : Bool) → eachOf (symbolDerives found) (symbolsBehind g i) ≡ b → Sound (pick b (join found (single (at g i .symbol))) found)
+      by-test : (b : Bool) → eachOf (symbolDerives found) (symbolsBehind g i) ≡ b → AllDerive (pick b (join found (single (at g i .symbol))) found)
       by-test true e a h = ⊎-elim (s a) (λ k. rw (has-single (at g i .symbol) a .0 k) (new e)) (has-join found (single (at g i .symbol)) a .0 h)
       by-test false e a h = s a h
 
-  productive-sound : Sound (productive g)
+  productive-sound : AllDerive (productive g)
   unfolding productive
   productive-sound =
-      rounds-keep (allCollected g) (collect g) Sound (leftSides g) sound-collect (nonterminalCount g) 0 (λ a h. absurd (has-none a h))
+      rounds-keep (allCollected g) (collect g) AllDerive (leftSides g) collect-derives (nonterminalCount g) 0 (λ a h. absurd (has-none a h))
 
   -- ---- complete: where all is collected, what derives tokens is among it
-  module _ (found : TokenSet) (all : allCollected g found ≡ true) where
+  module _ (found : NumberSet) (all : allCollected g found ≡ true) where
     left-collected : {p a : ℕ} {η : List Symbol} → Rule g p a η → eachOf (symbolDerives found) η ≡ true → has found a ≡ true
     unfolding allCollected sideDerives
     left-collected r e =
@@ -69,10 +69,10 @@ module _ (g : Grammar) where
 
   -- ---- the rounds end: one that is not the last collects one of m nonterminals
   module _ (left : NonterminalsLeft g) where
-    abbrev done : ℕ → TokenSet → Bool
-    done i found = not (sideDerives g found i) || has found (at g i .symbol)
+    abbrev leftCollected : ℕ → NumberSet → Bool
+    leftCollected i found = not (sideDerives g found i) || has found (at g i .symbol)
 
-    steps : Steps (collect g) done (size (nonterminalCount g)) (λ found. Unit {0}) (leftSides g)
+    steps : Steps (collect g) leftCollected (size (nonterminalCount g)) (λ found. Unit {0}) (leftSides g)
     unfolding collect
     steps = record {
       keeps = λ i k found u. tt;
@@ -80,11 +80,11 @@ module _ (g : Grammar) where
       adds = λ i k found u e. adds (at g i .symbol) found (left-below g left i k) (sideDerives g found i) e;
     }
       where
-        rests : (a : ℕ) (found : TokenSet) (b : Bool) → (not b || has found a) ≡ true → pick b (join found (single a)) found ≡ found
+        rests : (a : ℕ) (found : NumberSet) (b : Bool) → (not b || has found a) ≡ true → pick b (join found (single a)) found ≡ found
         rests a found true e = join-within found (single a) (within-single a found ∙ e)
         rests a found false e = refl
 
-        adds : (a : ℕ) (found : TokenSet) → a < nonterminalCount g → (b : Bool) → (not b || has found a) ≡ false
+        adds : (a : ℕ) (found : NumberSet) → a < nonterminalCount g → (b : Bool) → (not b || has found a) ≡ false
             → size (nonterminalCount g) found < size (nonterminalCount g) (pick b (join found (single a)) found)
         adds a found h true e = size-grows (nonterminalCount g) found (single a) (single-below (nonterminalCount g) a h) (within-single a found ∙ e)
         adds a found h false e = absurd (true≢false e)
@@ -92,7 +92,7 @@ module _ (g : Grammar) where
     productive-settled : allCollected g (productive g) ≡ true
     unfolding allCollected productive
     productive-settled =
-        rounds-end (collect g) done (size (nonterminalCount g)) (λ found. Unit {0}) (leftSides g) steps (nonterminalCount g)
+        rounds-end (collect g) leftCollected (size (nonterminalCount g)) (λ found. Unit {0}) (leftSides g) steps (nonterminalCount g)
         (λ found u. size-le (nonterminalCount g) found) (nonterminalCount g) 0 tt (omega arith)
 
     productive-complete : (a : ℕ) → DerivesTokens (Rule g) (nonterminal a ∷ []) → Has (productive g) a

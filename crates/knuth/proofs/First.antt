@@ -6,7 +6,7 @@ use mathlib.Core.Logic.{_⊎_, inl, inr}
 use mathlib.Core.List.{List, [], _∷_, _++_, reverse, append-nil, nil≢cons, cons≢nil, head-eq-of-cons-eq}
 use Rattle.rules.specs.Grammar.{Symbol, nonterminal, terminal}
 use Rattle.knuth.specs.Derivations.{tokens, next, Derives, Trees, none, leaf, node, Fruitful, Productive}
-use Rattle.knuth.specs.Meaning.{Null, null, null-nonterminal, Begins, token, inside, past, First, end, now, expand}
+use Rattle.knuth.specs.Meaning.{Null, null, null-nonterminal, Begins, token, inside, beyond, First, end, now, expand}
 use Rattle.knuth.proofs.Trees.{derivation-of-trees, trees-of-derivation}
 use Rattle.knuth.proofs.Productive.{fruitful-trees}
 
@@ -23,21 +23,21 @@ module _ (Rule : ℕ → ℕ → List Symbol → Type 0) where
   pub begins-front : {t : ℕ} {φ : List Symbol} (ψ : List Symbol) → Begins Rule t φ → Begins Rule t (φ ++ ψ)
   begins-front ψ token = token
   begins-front ψ (inside r b) = inside r b
-  begins-front ψ (past r h b) = past r h (begins-front ψ b)
+  begins-front ψ (beyond r h b) = beyond r h (begins-front ψ b)
 
   pub begins-behind : {t : ℕ} {φ ψ : List Symbol} → Null Rule φ → Begins Rule t ψ → Begins Rule t (φ ++ ψ)
   begins-behind null b = b
-  begins-behind (null-nonterminal r h k) b = past r h (begins-behind k b)
+  begins-behind (null-nonterminal r h k) b = beyond r h (begins-behind k b)
 
   pub begins-cut : {t : ℕ} (φ : List Symbol) {ψ : List Symbol} → Begins Rule t (φ ++ ψ) → Begins Rule t φ ⊎ (Null Rule φ × Begins Rule t ψ)
   begins-cut [] b = inr (null, b)
   begins-cut (terminal u ∷ φ) token = inl token
   begins-cut (nonterminal A ∷ φ) (inside r b) = inl (inside r b)
-  begins-cut {t} (nonterminal A ∷ φ) {ψ} (past r h b) = go (begins-cut φ b)
+  begins-cut {t} (nonterminal A ∷ φ) {ψ} (beyond r h b) = go (begins-cut φ b)
     where
       go : Begins Rule t φ ⊎ (Null Rule φ × Begins Rule t ψ)
           → Begins Rule t (nonterminal A ∷ φ) ⊎ (Null Rule (nonterminal A ∷ φ) × Begins Rule t ψ)
-      go (inl c) = inl (past r h c)
+      go (inl c) = inl (beyond r h c)
       go (inr (k, c)) = inr (null-nonterminal r h k, c)
 
   -- a right side, and what follows its nonterminal
@@ -46,7 +46,7 @@ module _ (Rule : ℕ → ℕ → List Symbol → Type 0) where
     where
       go : Begins Rule t η ⊎ (Null Rule η × Begins Rule t ψ) → Begins Rule t (nonterminal A ∷ ψ)
       go (inl c) = inside r c
-      go (inr (h, c)) = past r h c
+      go (inr (h, c)) = beyond r h c
 
   pub null-rule : {p A : ℕ} {η ψ : List Symbol} → Rule p A η → Null Rule (η ++ ψ) → Null Rule (nonterminal A ∷ ψ)
   null-rule {η} r h = let (h₁, h₂) = null-cut η h in null-nonterminal r h₁ h₂
@@ -68,7 +68,7 @@ module _ (Rule : ℕ → ℕ → List Symbol → Type 0) where
   first-of-begins : {φ : List Symbol} {t : ℕ} (ψ : List Symbol) (b : ℕ) → Begins Rule t φ → First Rule (φ ++ ψ) b t
   first-of-begins ψ b token = now
   first-of-begins ψ b (inside {φ} r c) = expand r (first-of-begins (φ ++ ψ) b c)
-  first-of-begins ψ b (past r h c) = expand r (first-behind-null h (first-of-begins ψ b c))
+  first-of-begins ψ b (beyond r h c) = expand r (first-behind-null h (first-of-begins ψ b c))
 
   pub first-of : {φ : List Symbol} {b t : ℕ} → Begins Rule t φ ⊎ (Null Rule φ × (t ≡ b)) → First Rule φ b t
   first-of {b} (inl c) = rw append-nil at (first-of-begins [] b c)
@@ -119,7 +119,7 @@ module _ (Rule : ℕ → ℕ → List Symbol → Type 0) where
   trees-begin : {φ : List Symbol} {ps w : List ℕ} (t : ℕ) (v : List ℕ) → Trees Rule φ ps w → w ≡ t ∷ v → Begins Rule t φ
   trees-begin t v none e = absurd (nil≢cons e)
   trees-begin t v (leaf y) e = rw (head-eq-of-cons-eq e) token
-  trees-begin t v (node {u = []} r y z) e = past r (trees-null y refl) (trees-begin t v z e)
+  trees-begin t v (node {u = []} r y z) e = beyond r (trees-null y refl) (trees-begin t v z e)
   trees-begin t v (node {u = s ∷ u} r y z) e = rw (← head-eq-of-cons-eq e) (inside r (trees-begin s u y refl))
 
   pub derives-null : {φ : List Symbol} {ps : List ℕ} → Derives Rule φ ps [] → Null Rule φ
@@ -147,7 +147,7 @@ module _ (Rule : ℕ → ℕ → List Symbol → Type 0) where
         let (ps, u, y) = begins-trees (productive p A η r) c in
         let (qs, v, z) = fruitful-trees Rule φ (h .1) in
         (ps ++ (p ∷ qs), u ++ v, node r y z)
-    begins-trees h (past {p} r k c) =
+    begins-trees h (beyond {p} r k c) =
         let (ps, y) = null-trees k in
         let (qs, w, z) = begins-trees (h .1) c in
         (ps ++ (p ∷ qs), w, node r y z)

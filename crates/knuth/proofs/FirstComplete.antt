@@ -12,7 +12,7 @@ use Rattle.rules.specs.Grammar.{Symbol, nonterminal, symbolsBehind}
 use Rattle.rules.specs.First.{Sets, setOf, first0, firstSettled}
 use Rattle.sets.proofs.Laws.{has-true, has-single, has-eof, has-join, has-without, within-true}
 use Rattle.knuth.specs.Rules.{Rule}
-use Rattle.knuth.specs.Meaning.{Null, null, null-nonterminal, Begins, token, inside, past}
+use Rattle.knuth.specs.Meaning.{Null, null, null-nonterminal, Begins, token, inside, beyond}
 use Rattle.knuth.proofs.Productions.{left-side-of-rule}
 
 module _ (g : Grammar) (n : ℕ) (sets : Sets) (settled : firstSettled g n sets ≡ true) where
@@ -25,9 +25,9 @@ module _ (g : Grammar) (n : ℕ) (sets : Sets) (settled : firstSettled g n sets 
       within-true _ _ .0 (rw (r .left, r .right) at f) t h
 
   -- what first0 of a nonterminal and a suffix has
-  has-past : (a t : ℕ) (xs : List Symbol) → Has (setOf sets a) n → Has (first0 n sets xs) t → Has (first0 n sets (nonterminal a ∷ xs)) t
+  has-beyond : (a t : ℕ) (xs : List Symbol) → Has (setOf sets a) n → Has (first0 n sets xs) t → Has (first0 n sets (nonterminal a ∷ xs)) t
   unfolding first0
-  has-past a t xs m h = by-mark (has (setOf sets a) n) (has-true (setOf sets a) n .1 m)
+  has-beyond a t xs m h = by-mark (has (setOf sets a) n) (has-true (setOf sets a) n .1 m)
     where
       by-mark : (d : Bool) → d ≡ true → Has (pick d (join (without (setOf sets a) n) (first0 n sets xs)) (setOf sets a)) t
       by-mark true e = has-join (without (setOf sets a) n) (first0 n sets xs) t .1 (inr h)
@@ -44,10 +44,10 @@ module _ (g : Grammar) (n : ℕ) (sets : Sets) (settled : firstSettled g n sets 
   pub null-found : {xs : List Symbol} → Null (Rule g) xs → Has (first0 n sets xs) n
   unfolding first0
   null-found null = has-eof n n .1 refl
-  null-found (null-nonterminal {A = a} {φ = xs} r h k) = has-past a n xs (left-has r n (null-found h)) (null-found k)
+  null-found (null-nonterminal {A = a} {φ = xs} r h k) = has-beyond a n xs (left-has r n (null-found h)) (null-found k)
 
   pub begins-found : {t : ℕ} {xs : List Symbol} → (t ≡ n → ⊥) → Begins (Rule g) t xs → Has (first0 n sets xs) t
   unfolding first0
   begins-found {t} ne token = has-single t t .1 refl
   begins-found {t} ne (inside {A = a} {φ = xs} r b) = has-inside a t xs ne (left-has r t (begins-found ne b))
-  begins-found {t} ne (past {A = a} {φ = xs} r h b) = has-past a t xs (left-has r n (null-found h)) (begins-found ne b)
+  begins-found {t} ne (beyond {A = a} {φ = xs} r h b) = has-beyond a t xs (left-has r n (null-found h)) (begins-found ne b)

@@ -18,7 +18,7 @@ use Rattle.rules.specs.Grammar.{Symbol, symbolsBehind, terminalCount}
 use Rattle.rules.specs.First.{first0, beginning, mayBeEmpty, first1, firstSets}
 use Rattle.sets.proofs.Laws.{has-true, has-false, has-single, has-join, has-without}
 use Rattle.knuth.specs.Rules.{Rule}
-use Rattle.knuth.specs.Meaning.{Null, Begins, token, inside, past, First}
+use Rattle.knuth.specs.Meaning.{Null, Begins, token, inside, beyond, First}
 use Rattle.knuth.specs.Coded.{Checked, TerminalsBelow, NonterminalsLeft}
 use Rattle.knuth.proofs.Coded.{checked-left}
 use Rattle.knuth.proofs.First.{begins-or-null, first-of}
@@ -42,7 +42,7 @@ pub record FirstMeant (g : Grammar) (xs : List Symbol) : Type 0 where
 pub begins-below : (g : Grammar) {t : ℕ} {xs : List Symbol} → TerminalsBelow (terminalCount g) xs → Begins (Rule g) t xs → t < terminalCount g
 begins-below g {t} below token = below t here
 begins-below g below (inside r b) = begins-below g (rw (r .right) at (terminals-below g (r .leftSide))) b
-begins-below g below (past r h b) = begins-below g (λ t m. below t (later m)) b
+begins-below g below (beyond r h b) = begins-below g (λ t m. below t (later m)) b
 
 -- ---- first0
 module _ (g : Grammar) (left : NonterminalsLeft g) (xs : List Symbol) (below : TerminalsBelow (terminalCount g) xs) where

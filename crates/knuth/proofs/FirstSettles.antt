@@ -1,20 +1,19 @@
 -- The rounds that collect FIRST end within m (n + 1): one that is not the last adds one of n + 1 tokens to one of m sets.
-use Prim.Native.Nat.{ℕ, _+_, _*_, _^_, _<_, _≤_}
-use mathlib.Core.Path.{_≡_, ap, _∙_}
+use Prim.Native.Nat.{ℕ, _+_, _*_, _^_, _<_}
+use mathlib.Core.Path.{_≡_}
 use mathlib.Core.Bool.{Bool, true, false}
 use mathlib.Core.List.{List, [], _∷_}
 use native.Mathlib.Omega.{arith}
-use lib.ListN.{length, replicate, length-replicate}
+use lib.ListN.{replicate}
 use Rattle.base.specs.Pick.{pick}
 use Rattle.base.specs.Among.{here, later}
-use Rattle.base.proofs.Lists.{at-replicate}
 use Rattle.base.proofs.Until.{Steps, rounds-end}
 use Rattle.rules.specs.Records.{Grammar, at}
 use Rattle.rules.specs.Tokens.{has, join, within, without}
 use Rattle.rules.specs.Grammar.{Symbol, nonterminal, terminal, symbolsBehind, leftSides, terminalCount, nonterminalCount}
 use Rattle.rules.specs.First.{Sets, setOf, first0, addFirst, firstSettled, firstSets}
-use Rattle.sets.proofs.Laws.{none-below, single-below, join-below, without-below}
-use Rattle.sets.proofs.Tables.{Narrow, mass, mass-le, joinAt-rests, joinAt-adds, joinAt-narrow, joinAt-length}
+use Rattle.sets.proofs.Laws.{single-below, join-below, without-below}
+use Rattle.sets.proofs.Tables.{Narrow, mass, joinAt-rests, joinAt-adds, none-in-range, joinAt-in-range, mass-in-range, InRange}
 use Rattle.knuth.specs.Coded.{TerminalsBelow, NonterminalsLeft}
 use Rattle.knuth.proofs.Productions.{terminals-below, left-below}
 
@@ -37,25 +36,21 @@ module _ (g : Grammar) where
   abbrev m : ℕ
   m = nonterminalCount g
 
-  abbrev InRange : Sets → Type 0
-  InRange sets = (length sets ≡ m) × Narrow n sets
-
-  abbrev done : ℕ → Sets → Bool
-  done i sets = within (first0 n sets (symbolsBehind g i)) (setOf sets (at g i .symbol))
+  -- the left side has what first0 of the right side has
+  abbrev leftHasFirst : ℕ → Sets → Bool
+  leftHasFirst i sets = within (first0 n sets (symbolsBehind g i)) (setOf sets (at g i .symbol))
 
   module _ (left : NonterminalsLeft g) where
-    steps : Steps (addFirst g n) done (mass n) InRange (leftSides g)
+    steps : Steps (addFirst g n) leftHasFirst (mass n) (InRange n m) (leftSides g)
     unfolding addFirst
     steps = record {
-      keeps = λ i k sets (l, s). (joinAt-length n _ _ sets ∙ l, joinAt-narrow n _ _ sets (first0-narrow n sets s _ (terminals-below g i)) s);
+      keeps = λ i k sets (l, s). joinAt-in-range n m _ _ sets (first0-narrow n sets s _ (terminals-below g i)) (l, s);
       rests = λ i k sets s e. joinAt-rests n _ _ sets e;
       adds = λ i k sets (l, s) e. joinAt-adds n _ _ sets (rw l (left-below g left i k)) (first0-narrow n sets s _ (terminals-below g i)) e;
     }
 
     pub first-sets-settled : firstSettled g n (firstSets g) ≡ true
-    unfolding firstSettled firstSets setOf
+    unfolding firstSettled firstSets
     first-sets-settled =
-        let bounded : (sets : Sets) → InRange sets → mass n sets ≤ m * (n + 1) =
-        λ sets i. omega (arith, mass-le n sets, ap (λ (k : ℕ). k * (n + 1)) (i .0)) in
-        rounds-end (addFirst g n) done (mass n) InRange (leftSides g) steps (m * (n + 1)) bounded (m * (n + 1)) (replicate m 0)
-        (length-replicate m 0, λ a. rw (at-replicate {A = ℕ} m 0 a) (none-below (n + 1))) (omega arith)
+        rounds-end (addFirst g n) leftHasFirst (mass n) (InRange n m) (leftSides g) steps (m * (n + 1)) (mass-in-range n m) (m * (n + 1)) (replicate m 0)
+        (none-in-range n m) (omega arith)

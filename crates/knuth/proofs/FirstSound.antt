@@ -39,9 +39,9 @@ module _ (R : ℕ → ℕ → List Symbol → Type 0) (n : ℕ) where
   tells-none xs = ((λ h. absurd (has-none n h)), (λ t ne h. absurd (has-none t h)))
 
   -- ---- first0
-  tells-past : {a : ℕ} {xs : List Symbol} (s r : TokenSet) → Has s n → Tells (nonterminal a ∷ []) s → Tells xs r
+  tells-beyond : {a : ℕ} {xs : List Symbol} (s r : TokenSet) → Has s n → Tells (nonterminal a ∷ []) s → Tells xs r
       → Tells (nonterminal a ∷ xs) (join (without s n) r)
-  tells-past {xs = xs} s r m p q =
+  tells-beyond {xs = xs} s r m p q =
       let nothing = p .0 m in (
         (λ h. ⊎-elim (λ w. absurd (has-without s n n .0 w .1 refl)) (λ k. null-append R nothing (q .0 k)) (has-join (without s n) r n .0 h)),
         (λ t ne h. ⊎-elim (λ w. begins-front R xs (p .1 t ne (has-without s n t .0 w .0))) (λ k. begins-behind R nothing (q .1 t ne k)) (has-join (without s n) r t .0 h)),
@@ -59,7 +59,7 @@ module _ (R : ℕ → ℕ → List Symbol → Type 0) (n : ℕ) where
     where
       by-mark : (d : Bool) → has (setOf sets a) n ≡ d → Tells xs (first0 n sets xs)
           → Tells (nonterminal a ∷ xs) (pick d (join (without (setOf sets a) n) (first0 n sets xs)) (setOf sets a))
-      by-mark true e k = tells-past (setOf sets a) (first0 n sets xs) (has-true _ _ .0 e) (s a) k
+      by-mark true e k = tells-beyond (setOf sets a) (first0 n sets xs) (has-true _ _ .0 e) (s a) k
       by-mark false e k = tells-inside xs (setOf sets a) (has-false _ _ .0 e) (s a)
 
   sound-join : {p a : ℕ} {η : List Symbol} (s : TokenSet) (sets : Sets) → R p a η → Tells η s → Sound sets → Sound (joinAt a s sets)

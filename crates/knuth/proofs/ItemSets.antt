@@ -7,37 +7,35 @@ use mathlib.Core.Bool.{Bool, true, false, _&&_, not, true≢false}
 use mathlib.Core.List.{List, [], _∷_}
 use native.Mathlib.Omega.{arith}
 use lib.ListN.{length}
-use lib.Dec.{eqb}
-use borrow.Author.Tests.{eqb-true, eqb-false, eq-eqb, ne-eqb, not-true, not-false}
+use borrow.Author.Tests.{eqb-false, not-true}
 use Rattle.base.specs.Among.{Among, here}
 use Rattle.base.specs.Lists.{someOf}
-use Rattle.base.proofs.Lists.{among-none, among-cons, among-map, keep-among, among-keep, upTo-among}
+use Rattle.base.proofs.Lists.{among-none, among-cons, among-map, keep-among, among-keep}
 use Rattle.base.proofs.Members.{map-among}
-use Rattle.base.proofs.Tests.{both-true, either-true, or-false, some-true, true-some}
+use Rattle.base.proofs.Tests.{both-true, some-true, true-some}
 use Rattle.rules.specs.Limits.{Limits}
-use Rattle.rules.proofs.Laws.{not-at-end-within}
-use Rattle.rules.specs.Records.{Record, Grammar, at, isTerminal, isLeftSide, badRecord, comesBehind, inSequence, outOfSequence}
+use Rattle.rules.specs.Records.{Grammar, at}
 use Rattle.rules.specs.Tokens.{TokenSet, Has, has, isEmptySet, eof}
-use Rattle.rules.specs.Grammar.{Symbol, nonterminal, atStart, atEnd, isBefore, symbolsBehind, leftSides, start, namesStart, terminalCount}
+use Rattle.rules.specs.Grammar.{Symbol, nonterminal, atEnd, isBefore, symbolsBehind, leftSides, start, terminalCount}
 use Rattle.rules.specs.First.{Sets, setOf}
 use Rattle.rules.specs.Run.{Table}
-use Rattle.rules.specs.States.{Entry, State, closes, handsOn, closureSets, entryOf, kernelOver}
+use Rattle.rules.specs.States.{Entry, closes, handsOn, closureSets, entryOf, kernelOver}
 use Rattle.sets.proofs.Laws.{has-true, has-none, has-eof, single-below, some-token}
 use Rattle.knuth.specs.Rules.{Rule}
 use Rattle.knuth.specs.Meaning.{First}
-use Rattle.knuth.specs.Coded.{Checked, NonterminalsLeft}
+use Rattle.knuth.specs.Coded.{Checked}
 use Rattle.knuth.specs.Entries.{HasItem, AtItem}
-use Rattle.knuth.specs.Items.{At, start as begin, move, close, Awaits, Reduces}
+use Rattle.knuth.specs.Items.{At, begin, move, close, Awaits, Reduces}
 use Rattle.knuth.specs.LR1.{Clear}
 use Rattle.knuth.specs.Table.{KnuthTable, decided}
 use Rattle.knuth.specs.ItemSets.{canonicalFollow, startKernel, kernelAt, itemSet}
-use Rattle.knuth.proofs.Coded.{checked-left}
+use Rattle.knuth.proofs.Checked.{same-production, start-is-first, first-is-left-side}
 use Rattle.knuth.proofs.Productions.{rule-of-left-side, left-side-of-rule}
 use Rattle.knuth.proofs.FirstSets.{first-behind-dot}
-use Rattle.knuth.proofs.Dots.{before-behind, symbol-behind, end-behind, at-end-behind}
+use Rattle.knuth.proofs.Dots.{before-not-at-end, before-behind, symbol-behind, end-behind, at-end-behind}
 use Rattle.knuth.proofs.Table.{clear→table}
 use Rattle.knuth.proofs.Closures.{closes-behind, behind-closes, canonical-follows-narrow}
-use Rattle.knuth.proofs.Kernels.{Good, kernel-in-closure, left-side-in-closure, closed-in-closure, closure-good, moved-good, closure-only}
+use Rattle.knuth.proofs.Kernels.{ProperSets, OnlyItems, kernel-in-closure, left-side-in-closure, closed-in-closure, closure-proper, moved-proper, closure-only}
 
 module _ (g : Grammar) where
   abbrev n : ℕ
@@ -50,65 +48,24 @@ module _ (g : Grammar) where
   unfolding itemSet
   kernel-entry γ e m = kernel-in-closure g (canonicalFollow g) (kernelAt g γ) e m
 
-  -- ---- the sets of a kernel and of its closure have a token, and none over n
-  start-good : Good g (startKernel g)
+  -- ---- the sets of a kernel and of its closure are proper
+  start-proper : ProperSets g (startKernel g)
   unfolding startKernel
-  start-good e m = ⊎-elim (λ q. rw q (single-below (n + 1) n (omega arith), λ z. has-none n (rw z at (has-eof n n .1 refl)))) (λ k. absurd (among-none k)) (among-cons m)
+  start-proper e m = ⊎-elim (λ q. rw q (single-below (n + 1) n (omega arith), λ z. has-none n (rw z at (has-eof n n .1 refl)))) (λ k. absurd (among-none k)) (among-cons m)
 
-  set-good : (γ : List Symbol) → Good g (kernelAt g γ) → Good g (itemSet g γ)
+  set-proper : (γ : List Symbol) → ProperSets g (kernelAt g γ) → ProperSets g (itemSet g γ)
   unfolding itemSet
-  set-good γ good = closure-good g (canonicalFollow g) (kernelAt g γ) (canonical-follows-narrow g) good
+  set-proper γ proper = closure-proper g (canonicalFollow g) (kernelAt g γ) (canonical-follows-narrow g) proper
 
-  kernel-good : (γ : List Symbol) → Good g (kernelAt g γ)
+  kernel-proper : (γ : List Symbol) → ProperSets g (kernelAt g γ)
   unfolding kernelAt itemSet
-  kernel-good [] = start-good
-  kernel-good (x ∷ γ) = moved-good g x (itemSet g γ) (set-good γ (kernel-good γ))
+  kernel-proper [] = start-proper
+  kernel-proper (x ∷ γ) = moved-proper g x (itemSet g γ) (set-proper γ (kernel-proper γ))
 
-  pub items-good : (γ : List Symbol) → Good g (itemSet g γ)
-  items-good γ = set-good γ (kernel-good γ)
-
--- ---- what the check of a grammar says of its records
-comes-behind-same : (q r : Record) → comesBehind q r ≡ true → isLeftSide r ≡ false → r .production ≡ q .production
-unfolding comesBehind isLeftSide
-comes-behind-same q r e first =
-    ⊎-elim (λ f. eqb-true (r .production) (q .production) (both-true (eqb (r .production) (q .production)) (eqb (r .position) (q .position + 1)) f .0))
-    (λ f. absurd (true≢false (sym (both-true (eqb (r .production) (q .production + 1)) (eqb (r .position) 0) f .1) ∙ first)))
-    (either-true (eqb (r .production) (q .production) && eqb (r .position) (q .position + 1)) (eqb (r .production) (q .production + 1) && eqb (r .position) 0) e)
-
-pub in-sequence-behind : (g : Grammar) (i : ℕ) → inSequence g (i + 1) ≡ true → comesBehind (at g i) (at g (i + 1)) ≡ true
-unfolding inSequence
-in-sequence-behind g i e =
-    let k : i + 1 - 1 ≡ i = omega arith in
-    let s : comesBehind (at g (i + 1 - 1)) (at g (i + 1)) ≡ true = rw (ne-eqb (i + 1) 0 (λ z. omega arith)) at e in
-    rw k at s
-
-pub names-start-first : (g : Grammar) (i : ℕ) → isTerminal (at g i) ≡ false → at g i .symbol ≡ start g → namesStart g i ≡ false → i ≡ 0
-unfolding namesStart
-names-start-first g i nt e h = by-test (eqb i 0) refl h
-  where
-    by-test : (b : Bool) → eqb i 0 ≡ b → (not b && (not (isTerminal (at g i)) && eqb (at g i .symbol) (start g))) ≡ false → i ≡ 0
-    by-test true p h = eqb-true i 0 p
-    by-test false p h = absurd (true≢false (rw (nt, eq-eqb (at g i .symbol) (start g) e) at h))
-
-pub before-not-at-end : (g : Grammar) (x : Symbol) (i : ℕ) → isBefore g x i ≡ true → atEnd g i ≡ false
-unfolding isBefore
-before-not-at-end g x i e = not-true (atEnd g i) (both-true (not (atEnd g i)) _ e .0)
+  pub items-proper : (γ : List Symbol) → ProperSets g (itemSet g γ)
+  items-proper γ = set-proper γ (kernel-proper γ)
 
 module _ (l : Limits) (g : Grammar) (checked : Checked l g) where
-  -- a production goes on where the dot is not at the end
-  pub same-production : (i : ℕ) → atEnd g i ≡ false → at g (i + 1) .production ≡ at g i .production
-  unfolding atEnd outOfSequence
-  same-production i e =
-      let (_, q) = or-false (badRecord l (at g (i + 1))) _ (checked .faultless (i + 1) (not-at-end-within g i e)) in
-      let (p, _) = or-false (not (inSequence g (i + 1))) _ q in
-      comes-behind-same (at g i) (at g (i + 1)) (in-sequence-behind g i (not-false _ p)) e
-
-  -- the start stands on the left of production 0 alone
-  pub start-is-first : {p : ℕ} {η : List Symbol} (r : Rule g p (start g) η) → r .leftSide ≡ 0
-  unfolding NonterminalsLeft isLeftSide
-  start-is-first r =
-      names-start-first g (r .leftSide) (checked-left l g checked (r .leftSide) (r .within) (eq-eqb _ _ (r .position))) (r .left) (checked .startOnce (r .leftSide) (r .within))
-
   -- ---- the item set has every item of the stack
   abbrev S : ℕ
   S = start g
@@ -116,7 +73,7 @@ module _ (l : Limits) (g : Grammar) (checked : Checked l g) where
   has-start : {p : ℕ} {η : List Symbol} → Rule g p S η → HasItem g (itemSet g []) p η (n g)
   unfolding kernelAt startKernel
   has-start r =
-      let z : r .leftSide ≡ 0 = start-is-first r in
+      let z : r .leftSide ≡ 0 = start-is-first l g checked r in
       record {
         entry = record { item = 0; next = 0; set = eof (n g) };
         among = kernel-entry g [] _ here;
@@ -133,7 +90,7 @@ module _ (l : Limits) (g : Grammar) (checked : Checked l g) where
       record {
         entry = record { item = e .item + 1; next = 0; set = e .set };
         among = kernel-entry g (x ∷ γ) _ (among-map _ (among-keep (λ (e : Entry). isBefore g x (e .item)) (h .among) before));
-        number = same-production (e .item) (before-not-at-end g x (e .item) before) ∙ h .number;
+        number = same-production l g checked (e .item) (before-not-at-end g x (e .item) before) ∙ h .number;
         behind = rest;
         token = h .token;
       }
@@ -147,7 +104,7 @@ module _ (l : Limits) (g : Grammar) (checked : Checked l g) where
       let (a, b, rest) = closes-behind g (e .item) (e .set) B (h .behind) some in
       let first : Has (handsOn g (canonicalFollow g) (e .item) (e .set)) u =
       first-behind-dot l g checked (e .item + 1) .ahead-some (e .set) t u (h .token) .1 (t, h .token, rw rest f) in
-      let here : Has (setOf (setsAt g γ) B) u = rw b at (closed-in-closure g (canonicalFollow g) (kernelAt g γ) (canonical-follows-narrow g) (kernel-good g γ) e (h .among) u a first) in
+      let here : Has (setOf (setsAt g γ) B) u = rw b at (closed-in-closure g (canonicalFollow g) (kernelAt g γ) (canonical-follows-narrow g) (kernel-proper g γ) e (h .among) u a first) in
       record {
         entry = entryOf g (setsAt g γ) (r .leftSide);
         among = left-side-in-closure g (canonicalFollow g) (kernelAt g γ) (r .leftSide) u (left-side-of-rule g r) (rw (r .left) here);
@@ -162,8 +119,8 @@ module _ (l : Limits) (g : Grammar) (checked : Checked l g) where
   items-found (close {γ = γ} i r f) = has-closed γ (items-found i) r f
 
   -- ---- and no others
-  -- some item of γ has B behind the dot, and u begins what follows B
-  record Asked (γ : List Symbol) (B u : ℕ) : Type 0 where
+  -- an item of γ hands u on to B: B stands behind its dot, and u begins what follows B
+  record Handed (γ : List Symbol) (B u : ℕ) : Type 0 where
     production : ℕ
     left : ℕ
     α : List Symbol
@@ -172,15 +129,12 @@ module _ (l : Limits) (g : Grammar) (checked : Checked l g) where
     item : At (Rule g) S (n g) γ production left α (nonterminal B ∷ β) token
     first : First (Rule g) β token u
 
-  abbrev SoundState : List Symbol → State → Type 0
-  SoundState γ state = (e : Entry) → Among e state → (t : ℕ) → Has (e .set) t → AtItem g γ (e .item) t
-
-  -- the productions of a nonterminal that is asked for are at work
-  left-side-sound : (γ : List Symbol) (i t : ℕ) → Among i (leftSides g) → Asked γ (at g i .symbol) t → AtItem g γ i t
+  -- the productions of a nonterminal that a token is handed on to are at work
+  left-side-sound : (γ : List Symbol) (i t : ℕ) → Among i (leftSides g) → Handed γ (at g i .symbol) t → AtItem g γ i t
   left-side-sound γ i t k a = record { left = at g i .symbol; α = []; item = close (a .item) (rule-of-left-side g i k) (a .first) }
 
   closes-sound : (γ : List Symbol) (i : ℕ) (s : TokenSet) → ((t : ℕ) → Has s t → AtItem g γ i t) → closes g i s ≡ true
-      → (u : ℕ) → Has (handsOn g (canonicalFollow g) i s) u → Asked γ (at g (i + 1) .symbol) u
+      → (u : ℕ) → Has (handsOn g (canonicalFollow g) i s) u → Handed γ (at g (i + 1) .symbol) u
   unfolding closes handsOn isEmptySet
   closes-sound γ i s sound a u h =
       let (t, k) = some-token s (eqb-false s 0 (not-true _ (both-true (not (isEmptySet s)) _ a .0))) in
@@ -196,11 +150,11 @@ module _ (l : Limits) (g : Grammar) (checked : Checked l g) where
         first = f;
       }
 
-  set-sound : (γ : List Symbol) → SoundState γ (kernelAt g γ) → SoundState γ (itemSet g γ)
+  set-sound : (γ : List Symbol) → OnlyItems (AtItem g γ) (kernelAt g γ) → OnlyItems (AtItem g γ) (itemSet g γ)
   unfolding itemSet
-  set-sound γ sound = closure-only g (canonicalFollow g) (AtItem g γ) (Asked γ) (closes-sound γ) (left-side-sound γ) (kernelAt g γ) sound
+  set-sound γ sound = closure-only g (canonicalFollow g) (AtItem g γ) (Handed γ) (closes-sound γ) (left-side-sound γ) (kernelAt g γ) sound
 
-  moved-sound : (γ : List Symbol) (x : Symbol) → SoundState γ (itemSet g γ) → SoundState (x ∷ γ) (kernelOver g x (itemSet g γ))
+  moved-sound : (γ : List Symbol) (x : Symbol) → OnlyItems (AtItem g γ) (itemSet g γ) → OnlyItems (AtItem g (x ∷ γ)) (kernelOver g x (itemSet g γ))
   unfolding kernelOver
   moved-sound γ x sound e m t h =
       let (f, k, q) = map-among (λ (e : Entry). record { item = e .item + 1; next = 0; set = e .set }) _ m in
@@ -208,29 +162,22 @@ module _ (l : Limits) (g : Grammar) (checked : Checked l g) where
       let s : e .set ≡ f .set = ap (λ (e : Entry). e .set) q in
       let i : AtItem g γ (f .item) t = sound f j t (rw s at h) in
       let read : At (Rule g) S (n g) γ (at g (f .item) .production) (i .left) (i .α) (x ∷ symbolsBehind g (f .item + 1)) t = rw (before-behind g (f .item) before) at (i .item) in
-      rw q (record { left = i .left; α = x ∷ i .α; item = rw (same-production (f .item) (before-not-at-end g x (f .item) before)) (move read) })
+      rw q (record { left = i .left; α = x ∷ i .α; item = rw (same-production l g checked (f .item) (before-not-at-end g x (f .item) before)) (move read) })
 
   module _ (some : 0 < length g) where
-    pub first-is-left-side : Among 0 (leftSides g)
-    unfolding leftSides atStart isLeftSide outOfSequence inSequence
-    first-is-left-side =
-        let (_, q) = or-false (badRecord l (at g 0)) _ (checked .faultless 0 some) in
-        let (p, _) = or-false (not (inSequence g 0)) _ q in
-        among-keep (atStart g) (upTo-among 0 (length g) .1 some) (both-true (eqb (at g 0 .production) 0) _ (not-false _ p) .1)
-
-    start-sound : SoundState [] (startKernel g)
+    start-sound : OnlyItems (AtItem g []) (startKernel g)
     unfolding startKernel start
     start-sound e m t h = ⊎-elim (λ q. rw q (begun (rw q at h))) (λ k. absurd (among-none k)) (among-cons m)
       where
         begun : Has (eof (n g)) t → AtItem g [] 0 t
-        begun k = record { left = S; α = []; item = rw (has-eof (n g) t .0 k) (begin (rule-of-left-side g 0 first-is-left-side)) }
+        begun k = record { left = S; α = []; item = rw (has-eof (n g) t .0 k) (begin (rule-of-left-side g 0 (first-is-left-side l g checked some))) }
 
-    kernel-sound : (γ : List Symbol) → SoundState γ (kernelAt g γ)
+    kernel-sound : (γ : List Symbol) → OnlyItems (AtItem g γ) (kernelAt g γ)
     unfolding kernelAt itemSet
     kernel-sound [] = start-sound
     kernel-sound (x ∷ γ) = moved-sound γ x (set-sound γ (kernel-sound γ))
 
-    pub items-sound : (γ : List Symbol) (e : Entry) → Among e (itemSet g γ) → (t : ℕ) → Has (e .set) t → AtItem g γ (e .item) t
+    pub items-sound : (γ : List Symbol) → OnlyItems (AtItem g γ) (itemSet g γ)
     items-sound γ = set-sound γ (kernel-sound γ)
 
     -- ---- so it is decided what a stack awaits and where it reduces
@@ -240,7 +187,7 @@ module _ (l : Limits) (g : Grammar) (checked : Checked l g) where
         by-test : (b : Bool) → someOf (λ e. isBefore g x (e .item)) (itemSet g γ) ≡ b → Dec (Awaits (Rule g) S (n g) γ x)
         by-test true e =
             let (f, m, before) = some-true (λ (e : Entry). isBefore g x (e .item)) (itemSet g γ) e in
-            let (t, h) = some-token (f .set) (items-good g γ f m .1) in
+            let (t, h) = some-token (f .set) (items-proper g γ f m .1) in
             let i = items-sound γ f m t h in
             yes (record {
               production = at g (f .item) .production;

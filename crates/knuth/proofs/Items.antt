@@ -6,17 +6,17 @@ use mathlib.Core.List.{List, [], _∷_, _++_, reverse, reverseAux, append-assoc,
 use Rattle.rules.specs.Grammar.{Symbol, nonterminal}
 use Rattle.knuth.specs.Derivations.{tokens, next, Step, Derives, done, step, Productive}
 use Rattle.knuth.specs.Meaning.{First, end}
-use Rattle.knuth.specs.Items.{At, start, move, close, Awaits, Valid}
+use Rattle.knuth.specs.Items.{At, begin, move, close, Awaits, Valid}
 use Rattle.knuth.proofs.Strings.{Stands, where-stands, no-nonterminal-in-tokens}
 use Rattle.knuth.proofs.Derivations.{tokens-append, derives-then, derives-between, rule-step}
 use Rattle.knuth.proofs.Productive.{fruitful-behind}
 use Rattle.knuth.proofs.First.{first-of-tokens, first-before-tokens, first-unexpanded, first-derives}
 
 module _ (Rule : ℕ → ℕ → List Symbol → Type 0) (S Eof : ℕ) where
-  pub moves : {γ α β : List Symbol} {p A t : ℕ} (η : List Symbol) → At Rule S Eof γ p A α (η ++ β) t
+  pub moved-over : {γ α β : List Symbol} {p A t : ℕ} (η : List Symbol) → At Rule S Eof γ p A α (η ++ β) t
       → At Rule S Eof (reverseAux η γ) p A (reverseAux η α) β t
-  moves [] i = i
-  moves (x ∷ η) i = moves η (move i)
+  moved-over [] i = i
+  moved-over (x ∷ η) i = moved-over η (move i)
 
   -- ---- a symbol that was read stood behind the dot of some item
   pub read-behind : {γ α β : List Symbol} {p A t : ℕ} {x : Symbol} → At Rule S Eof (x ∷ γ) p A α β t → Awaits Rule S Eof γ x
@@ -32,7 +32,7 @@ module _ (Rule : ℕ → ℕ → List Symbol → Type 0) (S Eof : ℕ) where
   reached-start p A t η [] ρ e r f = go (cc (head-eq-of-cons-eq e)) (rw (← tail-eq-of-cons-eq e) at f)
     where
       go : {u : ℕ} → A ≡ S → First Rule [] Eof u → At Rule S Eof [] p A [] η u
-      go e′ end = rw e′ (start (rw e′ at r))
+      go e′ end = rw e′ (begin (rw e′ at r))
   reached-start p A t η (x ∷ []) ρ e r f = absurd (nil≢cons (tail-eq-of-cons-eq e))
   reached-start p A t η (x ∷ y ∷ δ) ρ e r f = absurd (nil≢cons (tail-eq-of-cons-eq e))
 
@@ -47,7 +47,7 @@ module _ (Rule : ℕ → ℕ → List Symbol → Type 0) (S Eof : ℕ) where
           let i : At Rule S Eof (reverse (s .before)) q (s .head) [] (μ ++ (nonterminal A ∷ ν)) (next Eof (s .behind)) =
           rw e₂ at (reached q (s .head) _ _ (s .before) (tokens (s .behind)) (s .from) (s .rule) (first-of-tokens Rule Eof (s .behind))) in
           let j : At Rule S Eof (reverse (s .before ++ μ)) p A [] η t =
-          rw reverseAux-append (close (moves μ i) r (first-before-tokens Rule ν (s .behind) (rw e₃ at f))) in
+          rw reverseAux-append (close (moved-over μ i) r (first-before-tokens Rule ν (s .behind) (rw e₃ at f))) in
           rw e₁ j
 
       go : Stands (s .before) (s .body ++ tokens (s .behind)) δ (nonterminal A) ρ → At Rule S Eof (reverse δ) p A [] η t
@@ -70,7 +70,7 @@ module _ (Rule : ℕ → ℕ → List Symbol → Type 0) (S Eof : ℕ) where
   valid→at {γ} {α} {β} {p} {A} {t} v =
       let i : At Rule S Eof (v .under) p A [] (reverse α ++ β) (next Eof (v .rest)) =
       rw (reverse-reverse, reverseAux-eq α β) at (derived-item (reverse (v .under)) (v .rest) (v .form) (v .rule)) in
-      let j : At Rule S Eof (reverseAux (reverse α) (v .under)) p A (reverseAux (reverse α) []) β (next Eof (v .rest)) = moves (reverse α) i in
+      let j : At Rule S Eof (reverseAux (reverse α) (v .under)) p A (reverseAux (reverse α) []) β (next Eof (v .rest)) = moved-over (reverse α) i in
       rw (v .stack, v .token) (rw (reverseAux-eq (reverse α) (v .under), reverse-reverse α) at j)
 
   -- ---- and every item is valid, by refusal 8's rule
@@ -107,7 +107,7 @@ module _ (Rule : ℕ → ℕ → List Symbol → Type 0) (S Eof : ℕ) where
       next-behind (t ∷ x) w h = refl
 
   pub at→valid : Productive Rule → {γ α β : List Symbol} {p A t : ℕ} → At Rule S Eof γ p A α β t → Valid Rule S Eof γ p A α β t
-  at→valid productive (start r) = record { under = []; rest = []; by = []; form = done; rule = r; stack = refl; token = refl }
+  at→valid productive (begin r) = record { under = []; rest = []; by = []; form = done; rule = r; stack = refl; token = refl }
   at→valid productive (move i) =
       let v = at→valid productive i in
       record { under = v .under; rest = v .rest; by = v .by; form = v .form; rule = v .rule; stack = ap₂ _∷_ refl (v .stack); token = v .token }

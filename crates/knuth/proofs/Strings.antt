@@ -44,6 +44,13 @@ tokens-cut (t ∷ u) (x ∷ φ) v e =
     let (z, h, k) = tokens-cut u φ v (tail-eq-of-cons-eq e) in
     (t ∷ z, ap₂ _∷_ (sym (head-eq-of-cons-eq e)) h, ap₂ _∷_ refl k)
 
+pub tokens-apart : (φ : List Symbol) {ψ : List Symbol} (w : List ℕ) → φ ++ ψ ≡ tokens w → (u : List ℕ) × (v : List ℕ) × (φ ≡ tokens u) × (ψ ≡ tokens v) × (w ≡ u ++ v)
+tokens-apart [] w e = ([], w, refl, e, refl)
+tokens-apart (x ∷ φ) [] e = absurd (cons≢nil e)
+tokens-apart (x ∷ φ) (t ∷ w) e =
+    let (u, v, e₁, e₂, e₃) = tokens-apart φ w (tail-eq-of-cons-eq e) in
+    (t ∷ u, v, ap₂ _∷_ (head-eq-of-cons-eq e) e₁, e₂, ap₂ _∷_ refl e₃)
+
 -- φ u and ψ v are one string, and φ ends one token or more past ψ
 pub record Past (φ : List Symbol) (u : List ℕ) (ψ : List Symbol) (v : List ℕ) : Type 0 where
   pub token : ℕ

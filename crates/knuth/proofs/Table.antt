@@ -1,5 +1,5 @@
--- Knuth's table: there is at most one; it has no action exactly where no item asks for one; a grammar that has it has no conflict; and
--- a grammar without conflict has it, if it is decided what a stack awaits and where it reduces.
+-- Knuth's table: there is at most one; it has no action exactly where the stack awaits no such token and does not reduce; a grammar that
+-- has it has no conflict; and a grammar without conflict has it, if it is decided what a stack awaits and where it reduces.
 use Prim.Native.Nat.{ℕ}
 use mathlib.Core.Path.{_≡_, refl, sym, _∙_}
 use mathlib.Core.Logic.{_↔_}
@@ -10,7 +10,7 @@ use Rattle.rules.specs.Grammar.{Symbol, nonterminal, terminal}
 use Rattle.rules.specs.Run.{Act, shift, reduce, noAct, Table}
 use Rattle.knuth.specs.Items.{At, Awaits, Reduces}
 use Rattle.knuth.specs.LR1.{Clear}
-use Rattle.knuth.specs.Table.{KnuthTable, actBy, gotoBy, decided}
+use Rattle.knuth.specs.Table.{KnuthTable, actDecided, gotoDecided, decided}
 
 -- ---- actions are told apart
 module _ {S : Type 0} where
@@ -23,8 +23,8 @@ module _ {S : Type 0} where
   reduce≢noAct : {p : ℕ} → _≡_ {A = Act S} (reduce p) noAct → ⊥
   reduce≢noAct e = let z : _≡_ {A = ℕ} 0 1 = cc in omega arith
 
-  same-production : {p q : ℕ} → _≡_ {A = Act S} (reduce p) (reduce q) → p ≡ q
-  same-production e = cc
+  same-reduce : {p q : ℕ} → _≡_ {A = Act S} (reduce p) (reduce q) → p ≡ q
+  same-reduce e = cc
 
   some≢none : {s : S} → some s ≡ none → ⊥
   some≢none e = let z : _≡_ {A = ℕ} 0 1 = cc in omega arith
@@ -88,31 +88,31 @@ module _ (Rule : ℕ → ℕ → List Symbol → Type 0) (S Eof : ℕ) where
   -- ---- only without conflict
   pub table→clear : {table : Table (List Symbol)} → KnuthTable Rule S Eof table → Clear Rule S Eof
   table→clear {table} knuth = record {
-    reduce-reduce = λ {γ} {t = t} i j. same-production (sym (reduces-by i) ∙ reduces-by j);
+    reduce-reduce = λ {γ} {t = t} i j. same-reduce (sym (item-reduces i) ∙ item-reduces j);
     shift-reduce = λ {γ} {t = t} i j.
-        shift≢reduce (sym (knuth .shifts γ (terminal t ∷ γ) t .1 (refl, record { production = _; left = _; α = _; β = _; token = _; item = j })) ∙ reduces-by i);
+        shift≢reduce (sym (knuth .shifts γ (terminal t ∷ γ) t .1 (refl, record { production = _; left = _; α = _; β = _; token = _; item = j })) ∙ item-reduces i);
   }
     where
-      reduces-by : {γ α : List Symbol} {p A t : ℕ} → At Rule S Eof γ p A α [] t → table .act γ t ≡ reduce p
-      reduces-by {γ} {p = p} {t = t} i = knuth .reduces γ t p .1 (record { left = _; α = _; item = i })
+      item-reduces : {γ α : List Symbol} {p A t : ℕ} → At Rule S Eof γ p A α [] t → table .act γ t ≡ reduce p
+      item-reduces {γ} {p = p} {t = t} i = knuth .reduces γ t p .1 (record { left = _; α = _; item = i })
 
   -- ---- and always without conflict, if it is decided what a stack awaits and where it reduces
   module _ (awaits : (γ : List Symbol) (x : Symbol) → Dec (Awaits Rule S Eof γ x)) (reduces : (γ : List Symbol) (t : ℕ) → Dec ((p : ℕ) × Reduces Rule S Eof γ p t))
       (clear : Clear Rule S Eof) where
     shifts-by : (γ to : List Symbol) (t : ℕ) (d : Dec (Awaits Rule S Eof γ (terminal t))) (r : Dec ((p : ℕ) × Reduces Rule S Eof γ p t))
-        → (actBy Rule S Eof γ t d r ≡ shift to) ↔ ((to ≡ terminal t ∷ γ) × Awaits Rule S Eof γ (terminal t))
+        → (actDecided Rule S Eof γ t d r ≡ shift to) ↔ ((to ≡ terminal t ∷ γ) × Awaits Rule S Eof γ (terminal t))
     shifts-by γ to t (yes a) r = ((λ e. (same-shift (sym e), a)), (λ (e, _). rw e))
     shifts-by γ to t (no n) (yes r) = ((λ e. absurd (shift≢reduce (sym e))), (λ (_, a). absurd (n a)))
     shifts-by γ to t (no n) (no m) = ((λ e. absurd (shift≢noAct (sym e))), (λ (_, a). absurd (n a)))
 
     reduces-by : (γ : List Symbol) (t p : ℕ) (d : Dec (Awaits Rule S Eof γ (terminal t))) (r : Dec ((p : ℕ) × Reduces Rule S Eof γ p t))
-        → (actBy Rule S Eof γ t d r ≡ reduce p) ↔ Reduces Rule S Eof γ p t
+        → (actDecided Rule S Eof γ t d r ≡ reduce p) ↔ Reduces Rule S Eof γ p t
     reduces-by γ t p (yes a) r = ((λ e. absurd (shift≢reduce e)), (λ r. absurd (clear .shift-reduce (r .item) (a .item))))
-    reduces-by γ t p (no n) (yes (q, r)) = ((λ e. rw (← same-production e) r), (λ r′. rw (clear .reduce-reduce (r .item) (r′ .item))))
+    reduces-by γ t p (no n) (yes (q, r)) = ((λ e. rw (← same-reduce e) r), (λ r′. rw (clear .reduce-reduce (r .item) (r′ .item))))
     reduces-by γ t p (no n) (no m) = ((λ e. absurd (reduce≢noAct (sym e))), (λ r. absurd (m (p, r))))
 
     goes-by : (γ to : List Symbol) (A : ℕ) (d : Dec (Awaits Rule S Eof γ (nonterminal A)))
-        → (gotoBy Rule S Eof γ A d ≡ some to) ↔ ((to ≡ nonterminal A ∷ γ) × Awaits Rule S Eof γ (nonterminal A))
+        → (gotoDecided Rule S Eof γ A d ≡ some to) ↔ ((to ≡ nonterminal A ∷ γ) × Awaits Rule S Eof γ (nonterminal A))
     goes-by γ to A (yes a) = ((λ e. (same-some (sym e), a)), (λ (e, _). rw e))
     goes-by γ to A (no n) = ((λ e. absurd (some≢none (sym e))), (λ (_, a). absurd (n a)))
 

@@ -12,7 +12,7 @@ use Rattle.knuth.specs.Meaning.{First}
 
 module _ (Rule : ℕ → ℕ → List Symbol → Type 0) (S Eof : ℕ) where
   pub data At : List Symbol → ℕ → ℕ → List Symbol → List Symbol → ℕ → Type 0 where
-    start : {p : ℕ} {η : List Symbol} → Rule p S η → At [] p S [] η Eof
+    begin : {p : ℕ} {η : List Symbol} → Rule p S η → At [] p S [] η Eof
     move : {γ α β : List Symbol} {p A t : ℕ} {x : Symbol} → At γ p A α (x ∷ β) t → At (x ∷ γ) p A (x ∷ α) β t
     close : {γ α β η : List Symbol} {p q A B t u : ℕ}
         → At γ p A α (nonterminal B ∷ β) t → Rule q B η → First Rule β t u → At γ q B [] η u

@@ -21,6 +21,12 @@
 --
 -- In other words, the paper says, any handle is always uniquely determined by the string to its left and the k terminal characters to
 -- its right.
+--
+-- The paper words the handle twice: as the leftmost complete branch of a tree (Branches), and, as "an alternative way", by the derivation
+-- that replaces the rightmost intermediate character at each step. The second is taken here. Where no intermediate character stands right
+-- of the handle, as in α, the two agree (proofs/Handles.antt). But β's may end before the n-th symbol, and by the first wording with
+-- intermediate characters behind it: 0: S→C C t, 1: C→ε, which a parser reads without looking ahead at all, would not be LR(1), since C t
+-- would have the handles (1, 1) and (0, 1) (proofs/TwoEmpty.antt).
 use Prim.Native.Nat.{ℕ}
 use mathlib.Core.Path.{_≡_}
 use mathlib.Core.List.{List, [], _∷_, _++_}
@@ -30,6 +36,13 @@ use Rattle.rules.specs.Grammar.{Symbol, nonterminal, terminal, start, terminalC
 use Rattle.knuth.specs.Derivations.{tokens, next, Step, Derives}
 use Rattle.knuth.specs.Items.{At}
 use Rattle.knuth.specs.Rules.{Rule}
+
+-- any handle is determined by the string to its left and the token to its right
+abbrev pub Determined : (List Symbol → ℕ → ℕ → Type 0) → ℕ → Type 0
+Determined HasHandle Eof = (χ : List Symbol) (u v : List ℕ) (p m q : ℕ)
+    → HasHandle (χ ++ tokens u) (length χ) p → HasHandle (χ ++ tokens v) m q
+    → next Eof u ≡ next Eof v
+    → (m ≡ length χ) × (q ≡ p)
 
 module _ (Rule : ℕ → ℕ → List Symbol → Type 0) (S : ℕ) where
   -- the right sentential form φ has handle (n, p)
@@ -42,10 +55,7 @@ module _ (Rule : ℕ → ℕ → List Symbol → Type 0) (S : ℕ) where
 
   module _ (Eof : ℕ) where
     abbrev pub LR1 : Type 0
-    LR1 = (χ : List Symbol) (u v : List ℕ) (p m q : ℕ)
-        → Handle (χ ++ tokens u) (length χ) p → Handle (χ ++ tokens v) m q
-        → next Eof u ≡ next Eof v
-        → (m ≡ length χ) × (q ≡ p)
+    LR1 = Determined Handle Eof
 
     -- no stack of symbols has a conflict: two reductions at one token are by one production, and no token of a reduction is shifted
     pub record Clear : Type 0 where

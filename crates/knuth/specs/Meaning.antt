@@ -14,7 +14,7 @@ module _ (Rule : ℕ → ℕ → List Symbol → Type 0) where
   pub data Begins (t : ℕ) : List Symbol → Type 0 where
     token : {φ : List Symbol} → Begins t (terminal t ∷ φ)
     inside : {p A : ℕ} {η φ : List Symbol} → Rule p A η → Begins t η → Begins t (nonterminal A ∷ φ)
-    past : {p A : ℕ} {η φ : List Symbol} → Rule p A η → Null η → Begins t φ → Begins t (nonterminal A ∷ φ)
+    beyond : {p A : ℕ} {η φ : List Symbol} → Rule p A η → Null η → Begins t φ → Begins t (nonterminal A ∷ φ)
 
   -- φ followed by the token b derives a string that t begins
   pub data First : List Symbol → ℕ → ℕ → Type 0 where

@@ -19,19 +19,19 @@ module _ (Rule : ℕ → ℕ → List Symbol → Type 0) (S Eof : ℕ) where
     pub goes : (γ to : List Symbol) (A : ℕ) → (table .goto γ A ≡ some to) ↔ ((to ≡ nonterminal A ∷ γ) × Awaits Rule S Eof γ (nonterminal A))
 
   -- ---- the table of decisions: which symbols a stack awaits, and whether it reduces at a token
-  abbrev pub actBy : (γ : List Symbol) (t : ℕ) → Dec (Awaits Rule S Eof γ (terminal t)) → Dec ((p : ℕ) × Reduces Rule S Eof γ p t) → Act (List Symbol)
-  actBy γ t (yes a) d = shift (terminal t ∷ γ)
-  actBy γ t (no n) (yes r) = reduce (r .0)
-  actBy γ t (no n) (no m) = noAct
+  abbrev pub actDecided : (γ : List Symbol) (t : ℕ) → Dec (Awaits Rule S Eof γ (terminal t)) → Dec ((p : ℕ) × Reduces Rule S Eof γ p t) → Act (List Symbol)
+  actDecided γ t (yes a) d = shift (terminal t ∷ γ)
+  actDecided γ t (no n) (yes r) = reduce (r .0)
+  actDecided γ t (no n) (no m) = noAct
 
-  abbrev pub gotoBy : (γ : List Symbol) (A : ℕ) → Dec (Awaits Rule S Eof γ (nonterminal A)) → Option (List Symbol)
-  gotoBy γ A (yes a) = some (nonterminal A ∷ γ)
-  gotoBy γ A (no n) = none
+  abbrev pub gotoDecided : (γ : List Symbol) (A : ℕ) → Dec (Awaits Rule S Eof γ (nonterminal A)) → Option (List Symbol)
+  gotoDecided γ A (yes a) = some (nonterminal A ∷ γ)
+  gotoDecided γ A (no n) = none
 
   abbrev pub decided : ((γ : List Symbol) (x : Symbol) → Dec (Awaits Rule S Eof γ x))
       → ((γ : List Symbol) (t : ℕ) → Dec ((p : ℕ) × Reduces Rule S Eof γ p t)) → Table (List Symbol)
   decided awaits reduces = record {
-    act = λ γ t. actBy γ t (awaits γ (terminal t)) (reduces γ t);
-    goto = λ γ A. gotoBy γ A (awaits γ (nonterminal A));
+    act = λ γ t. actDecided γ t (awaits γ (terminal t)) (reduces γ t);
+    goto = λ γ A. gotoDecided γ A (awaits γ (nonterminal A));
     bottom = [];
   }

@@ -21,7 +21,7 @@ use Rattle.rules.specs.Run.{sideLength}
 use Rattle.knuth.specs.Rules.{Rule}
 use Rattle.knuth.specs.Coded.{Checked}
 use Rattle.knuth.proofs.Productions.{side-among, nonterminal-record}
-use Rattle.knuth.proofs.ItemSets.{in-sequence-behind, names-start-first, start-is-first}
+use Rattle.knuth.proofs.Checked.{in-sequence-behind, names-start-first, start-is-first}
 
 -- ---- records in sequence
 comes-behind-number : (q r : Record) → comesBehind q r ≡ true → (q .production ≤ r .production) × (r .position ≡ 0 → q .production < r .production)
