@@ -32,7 +32,7 @@ use Rattle.knuth.proofs.Dots.{before-behind, not-at-end-behind}
 use Rattle.knuth.proofs.ItemSets.{names-start-first, before-not-at-end, same-production}
 use Rattle.knuth.proofs.Productions.{rule-of-left-side, nonterminal-record}
 use Rattle.fuel.proofs.Trace.{Kept, both-keep}
-use Rattle.runs.proofs.Rules.{first-record, zero-has-start}
+use Rattle.runs.proofs.ProductionNumbers.{first-record, zero-has-start}
 
 -- what holds of every element and of the default holds at every place
 at-place : {A : Type 0} (P : A → Type 0) (n : ℕ) (x d : A) → P x → P d → (s : ℕ) → P (getD (replicate n x) s d)
