@@ -26,7 +26,7 @@ use Rattle.runs.specs.Sentences.{Sentence}
 use Rattle.runs.proofs.TokenPlaces.{next-of-drop, drop-one}
 use Rattle.runs.proofs.HandleAhead.{last-of, AtTop, PastTop, HandleAhead, handle-at-top-reduces, handle-past-top-awaits, handle-at-first, handle-after-shift}
 use Rattle.runs.proofs.HandleBefore.{zero-is-first, handle-before}
-use Rattle.runs.proofs.KnuthHonest.{cell-at, tails-drop, tails-length}
+use Rattle.runs.proofs.KnuthHonest.{tails-length, cells-drop, act-at, goto-at}
 use Rattle.runs.proofs.Invariants.{Invariant, course-keeps}
 
 module _ (l : Limits) (g : Grammar) (checked : Checked l g) where
@@ -83,7 +83,7 @@ module _ (l : Limits) (g : Grammar) (checked : Checked l g) where
       next-token = agrees (c .place) (omega arith) ∙ sym (next-of-drop Eof (c .place) w′)
 
       acts : table .act (f .γ) (next Eof v) ≡ actAt table g w c
-      acts = ap₂ (λ x (t : ℕ). table .act x t) (sym (cell-at g table knuth (f .γ) (f .cells) 0)) (sym next-token)
+      acts = ap (λ (t : ℕ). table .act (f .γ) t) (sym next-token) ∙ act-at g table knuth (f .γ) (f .cells) (tokenAt g w (c .place))
 
       past-next : (h : EndsPastTop) → next Eof v ≡ h .token
       past-next h = ap (λ (u : List ℕ). next Eof u) (h .rest)
@@ -144,12 +144,12 @@ module _ (l : Limits) (g : Grammar) (checked : Checked l g) where
         let k : ℕ = sideLength g (suc p) in
         let A : ℕ = leftOf g (suc p) in
         let fits : k ≤ length (f .γ) = omega (arith, ap length (f .cells), tails-length (f .γ)) in
-        let (q, _) = knuth .goes (drop k (f .γ)) to A .0 (ap (λ x. table .goto x A) (sym (cell-at g table knuth (f .γ) (f .cells) k)) ∙ e′) in
+        let (q, _) = knuth .goes (drop k (f .γ)) to A .0 (goto-at g table knuth (f .γ) (f .cells) k A ∙ e′) in
         let b = handle-before l g checked (f .by) (f .ahead) (d .at-top) in (
           b .last,
           record {
             γ = nonterminal A ∷ drop k (f .γ);
-            cells = ap₂ _∷_ q (ap (λ (x : List (List Symbol)). drop k x) (f .cells) ∙ tails-drop (f .γ) k fits);
+            cells = ap₂ _∷_ q (cells-drop (f .γ) (f .cells) k fits);
             by = b .by;
             ahead = b .ahead;
             whole = sym (append-assoc (b .by) (b .last ∷ []) (suc p ∷ c .made)) ∙ ap (λ (x : List ℕ). x ++ (suc p ∷ c .made)) (b .whole) ∙ f .whole;

@@ -14,7 +14,7 @@ use Rattle.rules.specs.Records.{Grammar}
 use Rattle.rules.specs.Run.{Act, shift, reduce, noAct, Table, run, sideLength}
 use Rattle.rules.specs.declared.RunEnd.{RunEnd}
 use Rattle.rules.specs.declared.RunEnd.the-variants.{Accepted, Rejected, Broken, ListFull, StackFull, StepLimit}
-use Rattle.runs.specs.Course.{Spot, Turn, goesOn, stops, Course, Allowance, allowanceOf, afterEnd, endsAt, afterTurn, opened, unopened, answerOf, actAt, gotoAt}
+use Rattle.runs.specs.Course.{Spot, Turn, goesOn, stops, Course, Allowance, turnsIn, allowanceOf, afterEnd, endsAt, afterTurn, opened, unopened, answerOf, actAt, gotoAt}
 use Rattle.runs.specs.Course.{turnShift, turnGoto, turnEnd, turnReduce, turnBy, turn, courseFrom, course}
 use Rattle.runs.specs.Sentences.{Verdict, listedOf}
 use Rattle.runs.proofs.Choices.{picked-sooner}
@@ -102,16 +102,16 @@ module _ {S : Type 0} (table : Table S) (g : Grammar) (tokens : List ℕ) (b b�
   course-grows f = go (eqb (b .stack) 0) (eqb (b′ .stack) 0) refl refl f
     where
       small : Course S
-      small = courseFrom table g tokens b (b .limit + 1) (opened table)
+      small = courseFrom table g tokens b (turnsIn b) (opened table)
 
       large : Course S
-      large = courseFrom table g tokens b′ (b′ .limit + 1) (opened table)
+      large = courseFrom table g tokens b′ (turnsIn b′) (opened table)
 
       go : (t t′ : Bool) → eqb (b .stack) 0 ≡ t → eqb (b′ .stack) 0 ≡ t′ → Decides (pick t (endsAt StackFull unopened) small .end)
           → pick t′ (endsAt StackFull unopened) large ≡ pick t (endsAt StackFull unopened) small
       go true t′ e e′ f = absurd f
       go false true e e′ f = absurd (eqb-false (b .stack) 0 e (omega (arith, eqb-true (b′ .stack) 0 e′, within .stack)))
-      go false false e e′ f = course-from-grows (b .limit + 1) (b′ .limit + 1) (opened table) (omega (arith, within .limit)) f
+      go false false e e′ f = course-from-grows (turnsIn b) (turnsIn b′) (opened table) (omega (arith, within .limit)) f
 
 -- ---- the run
 pub run-grows : {S : Type 0} (table : Table S) (g : Grammar) (tokens : List ℕ) (limit limit′ : ℕ) (stack stack′ : List S) (list list′ : List ℕ)

@@ -1,20 +1,19 @@
 -- What every turn of a course keeps holds to its end.
 use Prim.Native.Nat.{ℕ, zero, suc, _+_, _<_, _≤_}
 use mathlib.Core.Path.{_≡_, refl}
-use mathlib.Core.Bool.{Bool, true, false, _&&_, true≢false}
+use mathlib.Core.Bool.{_&&_, true≢false}
 use mathlib.Core.Option.{Option, none, some}
 use mathlib.Core.List.{List}
 use native.Mathlib.Omega.{arith}
 use lib.ListN.{length}
 use lib.Dec.{eqb, leb}
 use borrow.Author.Tests.{leb-true, leb-false, eqb-true, eq-eqb}
-use Rattle.base.specs.Pick.{pick}
 use Rattle.base.proofs.Tests.{both-true}
 use Rattle.rules.specs.Records.{Grammar}
 use Rattle.rules.specs.Run.{Act, shift, reduce, noAct, Table, sideLength}
 use Rattle.rules.specs.declared.RunEnd.{RunEnd}
 use Rattle.rules.specs.declared.RunEnd.the-variants.{Accepted, Rejected, Broken, ListFull, StackFull, StepLimit}
-use Rattle.runs.specs.Course.{Spot, Turn, goesOn, stops, Course, Allowance, afterShift, afterReduce, afterEnd, endsAt, afterTurn, opened, unopened, actAt, gotoAt}
+use Rattle.runs.specs.Course.{Spot, Turn, goesOn, stops, Course, Allowance, turnsIn, afterShift, afterReduce, afterEnd, afterTurn, opened, unopened, actAt, gotoAt}
 use Rattle.runs.specs.Course.{turnShift, turnGoto, turnEnd, turnReduce, turnBy, turn, courseFrom, course}
 use Rattle.runs.proofs.Choices.{picked}
 
@@ -116,8 +115,4 @@ module _ {S : Type 0} (table : Table S) (g : Grammar) (tokens : List ℕ) where
     -- the whole course, which with no room for a state ends before it begins
     pub course-keeps : Inv (opened table) → Out StackFull unopened → OutAt (course table g tokens b)
     unfolding course
-    course-keeps i shut = go (eqb (b .stack) 0)
-      where
-        go : (t : Bool) → OutAt (pick t (endsAt StackFull unopened) (courseFrom table g tokens b (b .limit + 1) (opened table)))
-        go true = shut
-        go false = course-from-keeps (b .limit + 1) (opened table) i
+    course-keeps i shut = picked OutAt (eqb (b .stack) 0) (λ f. shut) (λ f. course-from-keeps (turnsIn b) (opened table) i)

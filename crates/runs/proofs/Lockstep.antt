@@ -21,14 +21,14 @@ use Rattle.knuth.specs.Coded.{Checked}
 use Rattle.knuth.specs.Items.{Awaits, Reduces}
 use Rattle.knuth.specs.Table.{KnuthTable}
 use Rattle.knuth.proofs.Dots.{symbol-behind}
-use Rattle.runs.specs.Course.{Spot, Turn, goesOn, stops, Course, Allowance, afterTurn, endsAt, opened, unopened, actAt, turnShift, turnGoto, turnEnd, turnReduce, turnBy, turn, courseFrom, course}
+use Rattle.runs.specs.Course.{Spot, Turn, goesOn, stops, Course, Allowance, turnsIn, afterTurn, endsAt, opened, unopened, actAt, turnShift, turnGoto, turnEnd, turnReduce, turnBy, turn, courseFrom, course}
 use Rattle.runs.specs.Tails.{tails}
 use Rattle.runs.specs.Good.{Covering, GoodStates}
 use Rattle.runs.specs.Sentences.{AreTokens}
 use Rattle.runs.proofs.Choices.{picked-alike}
 use Rattle.runs.proofs.TokenPlaces.{token-at-most}
 use Rattle.runs.proofs.Sources.{Popped, popped}
-use Rattle.runs.proofs.KnuthHonest.{cell-at, tails-drop, tails-length}
+use Rattle.runs.proofs.KnuthHonest.{tails-length, cells-drop, act-at, goto-at}
 use Rattle.runs.proofs.Acts.{shifts-act, reduces-act, goes-goto}
 use Rattle.runs.proofs.GoodHonest.{Stacked, bottom, stacked-length, stacked-reach, stacked-drop, stacked-onto, goto-under}
 use Rattle.runs.proofs.Invariants.{place-never-falls, course-from-keeps}
@@ -91,7 +91,7 @@ module _ (l : Limits) (g : Grammar) (checked : Checked l g) (states : List State
         picked-alike Lock (ap (λ (n : ℕ). leb (b .stack) (n - k)) same-height) (refl, alike) (λ f′. record {
           γ = x ∷ drop k γ;
           stacked = st;
-          cells = ap₂ _∷_ e (ap (λ (y : List (List Symbol)). drop k y) (together .cells) ∙ tails-drop γ k fits);
+          cells = ap₂ _∷_ e (cells-drop γ (together .cells) k fits);
           alike = record { made = ap (λ (m : List ℕ). p ∷ m) (alike .made); steps = ap (λ n. n + 1) (alike .steps); place = alike .place };
         }))
 
@@ -136,7 +136,7 @@ module _ (l : Limits) (g : Grammar) (checked : Checked l g) (states : List State
 
         knuths-goto : table .goto (getD (c′ .cells) k (table .bottom)) A ≡ some (nonterminal A ∷ drop k γ)
         knuths-goto =
-            ap (λ x. table .goto x A) (cell-at g table knuth γ (together .cells) k) ∙ knuth .goes (drop k γ) (nonterminal A ∷ drop k γ) A .1 (refl, awaits)
+            sym (goto-at g table knuth γ (together .cells) k A) ∙ knuth .goes (drop k γ) (nonterminal A ∷ drop k γ) A .1 (refl, awaits)
 
         go : (o : Option ℕ) (o′ : Option (List Symbol)) (to : ℕ) → o ≡ some to → o′ ≡ some (nonterminal A ∷ drop k γ)
             → Stacked g states (to ∷ drop k (c .cells)) (nonterminal A ∷ drop k γ) → Lock (turnGoto ours g w b (suc p) o c) (turnGoto table g w b (suc p) o′ c′)
@@ -150,7 +150,7 @@ module _ (l : Limits) (g : Grammar) (checked : Checked l g) (states : List State
     top = getD (c .cells) 0 0
 
     knuth-acts : table .act γ t ≡ actAt table g w c′
-    knuth-acts = ap (λ x. table .act x t) (sym (cell-at g table knuth γ (together .cells) 0))
+    knuth-acts = act-at g table knuth γ (together .cells) t
 
     ours-acts : (a : Act ℕ) → ours .act top t ≡ a → actAt ours g w c ≡ a
     unfolding tableIn
@@ -218,7 +218,7 @@ module _ (l : Limits) (g : Grammar) (checked : Checked l g) (states : List State
       together : Together (opened ours) (opened table)
       together = record { γ = []; stacked = bottom; cells = ap (λ x. x ∷ []) (knuth .bottom); alike = record { made = refl; steps = refl; place = refl } }
 
-      go : (t : Bool) → EndAlike (pick t (endsAt StackFull unopened) (courseFrom ours g w b (b .limit + 1) (opened ours)))
-          (pick t (endsAt StackFull unopened) (courseFrom table g w b (b .limit + 1) (opened table)))
+      go : (t : Bool) → EndAlike (pick t (endsAt StackFull unopened) (courseFrom ours g w b (turnsIn b) (opened ours)))
+          (pick t (endsAt StackFull unopened) (courseFrom table g w b (turnsIn b) (opened table)))
       go true = inl (refl, refl, refl, refl)
-      go false = course-from-lock (b .limit + 1) (opened ours) (opened table) together
+      go false = course-from-lock (turnsIn b) (opened ours) (opened table) together

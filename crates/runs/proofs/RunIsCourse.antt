@@ -18,7 +18,7 @@ use Rattle.rules.specs.Run.{moveShift, moveGoto, moveEnd, moveReduce, moveBy, m
 use Rattle.rules.specs.declared.RunEnd.{RunEnd}
 use Rattle.rules.specs.declared.RunEnd.the-variants.{StackFull, StepLimit}
 use Rattle.rules.specs.declared.RunAnswer.{RunAnswer}
-use Rattle.runs.specs.Course.{Spot, Turn, goesOn, stops, Course, Allowance, allowanceOf, afterTurn, endsAt, opened, unopened, answerOf, turnShift, turnGoto, turnEnd, turnReduce, turnBy, turn, courseFrom, course}
+use Rattle.runs.specs.Course.{Spot, Turn, goesOn, stops, Course, Allowance, turnsIn, allowanceOf, afterTurn, endsAt, opened, unopened, answerOf, turnShift, turnGoto, turnEnd, turnReduce, turnBy, turn, courseFrom, course}
 use Rattle.runs.specs.Sentences.{listedOf}
 use Rattle.runs.proofs.Choices.{picked-alike}
 
@@ -214,7 +214,7 @@ module _ {S : Type 0} (table : Table S) (g : Grammar) (tokens : List ℕ) (limit
 
       go : (t : Bool) → eqb (length stack) 0 ≡ t
           → Gives table g tokens limit (length stack) list (pick t (answered StackFull none) (runFrom table g tokens limit (limit + 1) first))
-          (pick t (endsAt StackFull unopened) (courseFrom table g tokens (allowanceOf limit stack list) (limit + 1) (opened table)))
+          (pick t (endsAt StackFull unopened) (courseFrom table g tokens (allowanceOf limit stack list) (turnsIn (allowanceOf limit stack list)) (opened table)))
       go true e = (refl, refl)
       go false e =
           let some : 0 < length stack = omega (arith, eqb-false (length stack) 0 e) in

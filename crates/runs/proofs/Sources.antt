@@ -1,6 +1,6 @@
 -- Where an item comes from: the stack under its read part awaits its left side, or is empty and the item is the start's. So a completed
 -- item of production 0 has the whole stack, and any other can be popped.
-use Prim.Native.Nat.{ℕ, suc, _+_, _≤_}
+use Prim.Native.Nat.{ℕ, suc, _<_, _≤_}
 use mathlib.Core.Path.{_≡_, refl, sym, ap, ap₂, _∙_}
 use mathlib.Core.Logic.{_⊎_, inl, inr}
 use mathlib.Core.List.{List, [], _∷_, _++_, reverse, reverseAux, append-nil, reverse-append}
@@ -10,13 +10,13 @@ use lib.Seq.{drop-append-seam}
 use Rattle.base.specs.Among.{Among, here, later}
 use Rattle.rules.specs.Limits.{Limits}
 use Rattle.rules.specs.Records.{Grammar}
-use Rattle.rules.specs.Grammar.{Symbol, nonterminal, start, terminalCount, leftOf}
+use Rattle.rules.specs.Grammar.{Symbol, nonterminal, symbolsBehind, start, terminalCount, leftOf}
 use Rattle.rules.specs.Run.{sideLength}
 use Rattle.knuth.specs.Rules.{Rule}
 use Rattle.knuth.specs.Coded.{Checked}
 use Rattle.knuth.specs.Items.{At, start as begin, move, close, Awaits}
-use Rattle.runs.specs.Honest.{Completed}
-use Rattle.runs.proofs.ProductionNumbers.{side-length, production-left, start-has-zero, zero-has-start, start-behind-none}
+use Rattle.runs.specs.Honest.{Viable, Completed}
+use Rattle.runs.proofs.ProductionNumbers.{side-length, production-left, start-has-zero, zero-has-start, rule-zero, start-behind-none}
 
 -- what stands behind the dot is on the right side
 pub behind-among : {x : Symbol} (α β : List Symbol) → Among x β → Among x (reverseAux α β)
@@ -46,6 +46,10 @@ module _ (l : Limits) (g : Grammar) (checked : Checked l g) where
 
   awaits-same : {γ : List Symbol} {A B : ℕ} → A ≡ B → Awaits (Rule g) S Eof γ (nonterminal A) → Awaits (Rule g) S Eof γ (nonterminal B)
   awaits-same e a = rw e at a
+
+  -- the empty stack has an item
+  pub empty-viable : 0 < length g → Viable g []
+  empty-viable h = record { production = 0; left = S; α = []; β = symbolsBehind g 0; token = Eof; item = begin (rule-zero l g checked h) }
 
   -- no stack awaits the start
   start-not-awaited : {γ : List Symbol} → Awaits (Rule g) S Eof γ (nonterminal S) → ⊥

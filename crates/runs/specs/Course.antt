@@ -40,7 +40,12 @@ pub record Allowance : Type 0 where
   pub list : ℕ
   pub limit : ℕ
 
+-- a turn that goes on is a step, and none is made at the limit, so limit + 1 turns are the most that are tried
+abbrev pub turnsIn : Allowance → ℕ
+turnsIn b = b .limit + 1
+
 module _ {S : Type 0} where
+  -- as the rooms and the limit of a run set it
   abbrev pub allowanceOf : ℕ → List S → List ℕ → Allowance
   allowanceOf limit stack list = record { stack = length stack; list = length list; limit = limit }
 
@@ -124,4 +129,4 @@ module _ {S : Type 0} (table : Table S) (g : Grammar) (tokens : List ℕ) where
     -- the whole course
     unfoldable pub course : Course S
     unfolding courseFrom
-    course = pick (eqb (b .stack) 0) (endsAt StackFull unopened) (courseFrom (b .limit + 1) (opened table))
+    course = pick (eqb (b .stack) 0) (endsAt StackFull unopened) (courseFrom (turnsIn b) (opened table))
