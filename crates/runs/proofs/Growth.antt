@@ -1,4 +1,5 @@
--- A run that accepts or rejects does so with larger rooms and a higher limit too, at the same place after the same steps, and lists the same.
+-- A run that accepts or rejects does so with larger rooms and a higher limit too, at the same place after the same steps, and lists the
+-- same.
 use Prim.Native.Nat.{ℕ, zero, suc, _+_, _≤_}
 use mathlib.Core.Path.{_≡_, refl, sym, ap, _∙_}
 use mathlib.Core.Logic.{⊎-elim}

@@ -21,7 +21,8 @@ use Rattle.knuth.specs.Coded.{Checked}
 use Rattle.knuth.specs.Items.{Awaits, Reduces}
 use Rattle.knuth.specs.Table.{KnuthTable}
 use Rattle.knuth.proofs.Dots.{symbol-behind}
-use Rattle.runs.specs.Course.{Spot, Turn, goesOn, stops, Course, Allowance, turnsIn, afterTurn, endsAt, opened, unopened, actAt, turnShift, turnGoto, turnEnd, turnReduce, turnBy, turn, courseFrom, course}
+use Rattle.runs.specs.Course.{Spot, Turn, goesOn, stops, Course, Allowance, turnsIn, afterTurn, endsAt, opened, unopened, actAt}
+use Rattle.runs.specs.Course.{turnShift, turnGoto, turnEnd, turnReduce, turnBy, turn, courseFrom, course}
 use Rattle.runs.specs.Tails.{tails}
 use Rattle.runs.specs.Good.{Covering, GoodStates}
 use Rattle.runs.specs.Sentences.{AreTokens}

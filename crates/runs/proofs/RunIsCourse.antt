@@ -18,7 +18,8 @@ use Rattle.rules.specs.Run.{moveShift, moveGoto, moveEnd, moveReduce, moveBy, m
 use Rattle.rules.specs.declared.RunEnd.{RunEnd}
 use Rattle.rules.specs.declared.RunEnd.the-variants.{StackFull, StepLimit}
 use Rattle.rules.specs.declared.RunAnswer.{RunAnswer}
-use Rattle.runs.specs.Course.{Spot, Turn, goesOn, stops, Course, Allowance, turnsIn, allowanceOf, afterTurn, endsAt, opened, unopened, answerOf, turnShift, turnGoto, turnEnd, turnReduce, turnBy, turn, courseFrom, course}
+use Rattle.runs.specs.Course.{Spot, Turn, goesOn, stops, Course, Allowance, turnsIn, allowanceOf, afterTurn, endsAt, opened, unopened, answerOf}
+use Rattle.runs.specs.Course.{turnShift, turnGoto, turnEnd, turnReduce, turnBy, turn, courseFrom, course}
 use Rattle.runs.specs.Sentences.{listedOf}
 use Rattle.runs.proofs.Choices.{picked-alike}
 

@@ -24,6 +24,7 @@ behind-among [] β m = m
 behind-among (y ∷ α) β m = behind-among α (y ∷ β) (later m)
 
 module _ (Rule : ℕ → ℕ → List Symbol → Type 0) (S Eof : ℕ) where
+  -- at γ the item A → α · β has α on top, and under it what awaits A, or nothing if the item is the start's
   pub record Source (γ : List Symbol) (p A : ℕ) (α β : List Symbol) (t : ℕ) : Type 0 where
     pub under : List Symbol
     pub stack : γ ≡ α ++ under
