@@ -29,10 +29,10 @@ use Rattle.knuth.specs.Entries.{HasItem}
 use Rattle.knuth.proofs.Dots.{end-behind}
 use Rattle.walks.proofs.Outcomes.{holds-done}
 use Rattle.runs.specs.Good.{GoodStates, Covering}
-use Rattle.demands.proofs.Least.{blank, least-sets, alike-entry}
-use Rattle.demands.proofs.Linked.{Linked}
-use Rattle.demands.proofs.LR0.{Begins, Closed, Moves, lanes-linked}
-use Rattle.demands.proofs.LaneCovers.{least-covers}
+use Rattle.demands.proofs.Laws.{same-item}
+use Rattle.demands.proofs.Least.{blank, least-sets-shaped, alike-entry}
+use Rattle.demands.proofs.LR0.{LinkedItems, lanes-linked}
+use Rattle.demands.proofs.LaneCovers.{least-sets-cover}
 use Rattle.demands.proofs.LaneSound.{linked-sound}
 
 -- where no reduction lacks a token, an entry of the least sets stands at the place of one with as many tokens
@@ -45,7 +45,7 @@ lacking-none g (e ∷ es) [] f q h m = absurd (among-none m)
 lacking-none g (e ∷ es) (y ∷ fs) f q h m =
     let (a, b) = or-false (atEnd g (e .item) && not (within (y .set) (e .set))) (lacks g es fs) h in
     ⊎-elim
-    (λ p. let item : e .item ≡ f .item = sym (ap (λ (e : Entry). e .item) p ∙ ap (λ (e : Entry). e .item) (head-eq-of-cons-eq q)) in
+    (λ p. let item : e .item ≡ f .item = sym (same-item p ∙ same-item (head-eq-of-cons-eq q)) in
     (e, here, item, λ end. ap (λ (f : Entry). within (f .set) (e .set)) p ∙ inside end a))
     (λ k. let (e′, n, i, w) = lacking-none g es fs f (tail-eq-of-cons-eq q) b k in (e′, later n, i, w))
     (among-cons m)
@@ -76,19 +76,23 @@ check-gives g states (done states′) e = by-test (ltb (firstFailing g (firstSet
     same q p = rw q at p
 
     by-test : (b : Bool) → ltb (firstFailing g (firstSets g) states′) (length states′) ≡ b
-        → pick b (refused (FinalCheck (record { 0 = firstFailing g (firstSets g) states′ }))) (done states′) ≡ done states → (done states′ ≡ done states) × Passed g states
+        → pick b (refused (FinalCheck (record { 0 = firstFailing g (firstSets g) states′ }))) (done states′) ≡ done states
+        → (done states′ ≡ done states) × Passed g states
     by-test true h e = absurd (let z : _≡_ {A = ℕ} 0 1 = cc in omega arith)
     by-test false h e = let q : states′ ≡ states = cc in (e, same q (check-passed g states′ h))
 check-gives g states (refused why) e = absurd (let z : _≡_ {A = ℕ} 0 1 = cc in omega arith)
 
-module _ (l : Limits) (g : Grammar) (checked : Checked l g) (some : 0 < length g) (states : List State) where
-  module _ (linked : Linked g (Begins g) (Closed g) (Moves g) states) (passed : Passed g states) where
-    covering : {p t : ℕ} {β : List Symbol} (s : ℕ) → HasItem g (getD (leastSets g (firstSets g) states) s []) p β t → Covering g (getD states s []) p β t
-    covering {t = t} s h =
-        let shaped = least-sets g states (linked .some) in
+module _ (l : Limits) (g : Grammar) (checked : Checked l g) (a-record : 0 < length g) (states : List State) where
+  module _ (linked : LinkedItems g states) (passed : Passed g states) where
+    abbrev least : List State
+    least = leastSets g (firstSets g) states
+
+    checked-covers : {p t : ℕ} {β : List Symbol} (s : ℕ) → HasItem g (getD least s []) p β t → Covering g (getD states s []) p β t
+    checked-covers {t = t} s h =
         let f : Entry = h .entry in
-        let b : s < length states = least-within s (h .among) in
-        let (e, m, i, w) = lacking-none g (getD states s []) (getD (leastSets g (firstSets g) states) s []) f (shaped .shape s) (passed .full s b) (h .among) in
+        let shape = least-sets-shaped g states (linked .some) .shape s in
+        let b : s < length states = within-states states s (alike-entry (getD states s []) (getD least s []) f shape (h .among) .1) in
+        let (e, m, i, w) = lacking-none g (getD states s []) (getD least s []) f shape (passed .full s b) (h .among) in
         record {
           entry = e;
           among = m;
@@ -96,9 +100,6 @@ module _ (l : Limits) (g : Grammar) (checked : Checked l g) (some : 0 < length g
           behind = rw i (h .behind);
           token = λ z. within-true (f .set) (e .set) .0 (w (end-behind g (e .item) (ap (symbolsBehind g) i ∙ h .behind ∙ z))) t (h .token);
         }
-      where
-        least-within : (s : ℕ) {f : Entry} → Among f (getD (leastSets g (firstSets g) states) s []) → s < length states
-        least-within s m = within-states states s (alike-entry (getD states s []) (getD (leastSets g (firstSets g) states) s []) _ (least-sets g states (linked .some) .shape s) m .1)
 
     -- any states that are linked and pass
     pub linked-good : GoodStates g states
@@ -106,12 +107,12 @@ module _ (l : Limits) (g : Grammar) (checked : Checked l g) (some : 0 < length g
     linked-good = record {
       one-next = linked .one;
       next-below = λ s x e m b. linked .links s x e m b .0;
-      covers = λ {s = s} r i. covering s (least-covers l g checked states linked r i);
-      sound = linked-sound l g checked some states linked;
+      covers = λ {s = s} r i. checked-covers s (least-sets-cover l g checked states linked r i);
+      sound = linked-sound l g checked a-record states linked;
       no-conflict = zero-sum (conflictsAt g) states (λ state m. let (s, b, q) = place [] m in rw q (passed .clear s b));
     }
 
   pub lane-states-good : 0 < l .states → finalChecked g (lanes l g) ≡ done states → GoodStates g states
-  lane-states-good room e =
+  lane-states-good a-state e =
       let (q, passed) = check-gives g states (lanes l g) e in
-      linked-good (holds-done (Linked g (Begins g) (Closed g) (Moves g)) states (lanes l g) q (lanes-linked g l room)) passed
+      linked-good (holds-done (LinkedItems g) states (lanes l g) q (lanes-linked g l a-state)) passed

@@ -29,32 +29,40 @@ use Rattle.walks.proofs.Outcomes.{Holds, holds-pick}
 use Rattle.walks.proofs.Resolve.{resolve-keeps}
 use Rattle.traces.proofs.Rows.{lane-table-rows}
 use Rattle.walks.proofs.Walk.{walk-keeps}
-use Rattle.demands.proofs.Bare.{core}
-use Rattle.demands.proofs.Linked.{Linked, Restates, restated, restated-cores, copied}
+use Rattle.demands.proofs.Linked.{core, Linked, Restates, restated, restated-cores, copied}
 
 -- the patched entry
-abbrev patched : Grammar → ℕ → ℕ → Entry → Entry
+abbrev pub patched : Grammar → ℕ → ℕ → Entry → Entry
 patched g successor clone e = record { item = e .item; next = pick (not (atEnd g (e .item)) && eqb (e .next) successor) clone (e .next); set = e .set }
 
-patched-next : (g : Grammar) (successor clone : ℕ) (x : Symbol) (e : Entry) → isBefore g x (e .item) ≡ true → patched g successor clone e .next ≡ pick (eqb (e .next) successor) clone (e .next)
+patched-next : (g : Grammar) (successor clone : ℕ) (x : Symbol) (e : Entry) → isBefore g x (e .item) ≡ true
+    → patched g successor clone e .next ≡ pick (eqb (e .next) successor) clone (e .next)
 patched-next g successor clone x e b = rw (before-not-at-end g x (e .item) b)
 
-module _ (g : Grammar) (Begins Closed : List ℕ → Type 0) (Moves : List ℕ → Symbol → List ℕ → Type 0) (none : Closed []) where
-  abbrev pub Links : List State → Type 0
-  Links = Linked g Begins Closed Moves
+pub clone-of : (m : Merge) (s t : ℕ) → Among t (clonesOf m s) → (t < length (m .states)) × (originOf m t ≡ s)
+unfolding clonesOf
+clone-of m s t among =
+    let (i, p) = keep-among (λ c. eqb (originOf m c) s && not (eqb c s)) (upTo (length (m .states))) among in
+    (upTo-among t (length (m .states)) .0 i, eqb-true _ _ (both-true (eqb (originOf m t) s) _ p .0))
+
+module _ (g : Grammar) (Starts Closed : List ℕ → Type 0) (Becomes : List ℕ → Symbol → List ℕ → Type 0) (none : Closed []) where
+  abbrev pub LinkedStates : List State → Type 0
+  LinkedStates = Linked g Starts Closed Becomes
 
   -- ---- columns
-  take-restates : (states : List State) (t : ℕ) (actions : List Action) (columns : List TokenSet) → Restates g Begins Closed Moves states t (takeColumn actions columns)
+  take-restates : (states : List State) (t : ℕ) (actions : List Action) (columns : List TokenSet)
+      → Restates g Starts Closed Becomes states t (takeColumn actions columns)
   unfolding takeColumn
   take-restates states t actions columns = record { item = λ e. refl; next = λ x e m b below. (below, refl); alike = λ x e f b c q. q }
 
-  take-linked : (states : List State) (t : ℕ) (actions : List Action) (columns : List TokenSet) → Links states → Links (set states t (takeColumns actions columns (getD states t [])))
+  take-linked : (states : List State) (t : ℕ) (actions : List Action) (columns : List TokenSet) → LinkedStates states
+      → LinkedStates (set states t (takeColumns actions columns (getD states t [])))
   unfolding takeColumns
-  take-linked states t actions columns h = restated g Begins Closed Moves states t (takeColumn actions columns) (take-restates states t actions columns) h
+  take-linked states t actions columns h = restated g Starts Closed Becomes states t (takeColumn actions columns) (take-restates states t actions columns) h
 
   -- ---- links
   patch-restates : (states : List State) (s successor clone : ℕ) → clone < length states → core (getD states clone []) ≡ core (getD states successor [])
-      → Restates g Begins Closed Moves states s (patched g successor clone)
+      → Restates g Starts Closed Becomes states s (patched g successor clone)
   patch-restates states s successor clone below same = record {
     item = λ e. refl;
     next = λ x e m b k. rw (patched-next g successor clone x e b) (by-test e k (eqb (e .next) successor) refl);
@@ -66,14 +74,15 @@ module _ (g : Grammar) (Begins Closed : List ℕ → Type 0) (Moves : List ℕ �
       by-test e k true q = (below, rw (eqb-true (e .next) successor q) same)
       by-test e k false q = (k, refl)
 
-  -- ---- a merge over a lane table with so many rows
+  -- ---- a merge over a lane table with so many rows: a state has the items of the state that it is a clone of
   record Merging (rows : ℕ) (m : Merge) : Type 0 where
-    linked : Links (m .states)
+    linked : LinkedStates (m .states)
     enough : rows ≤ length (m .states)
     counted : length (m .origins) ≡ length (m .states)
-    origins : (c : ℕ) → c < length (m .states) → (originOf m c < length (m .states)) × (core (getD (m .states) c []) ≡ core (getD (m .states) (originOf m c) []))
+    origins : (c : ℕ) → c < length (m .states)
+        → (originOf m c < length (m .states)) × (core (getD (m .states) c []) ≡ core (getD (m .states) (originOf m c) []))
 
-  begun-merging : (states : List State) → Links states → Merging (length states) (mergeBegun states)
+  begun-merging : (states : List State) → LinkedStates states → Merging (length states) (mergeBegun states)
   unfolding mergeBegun originOf upTo
   begun-merging states h = record {
     linked = h;
@@ -92,10 +101,10 @@ module _ (g : Grammar) (Begins Closed : List ℕ → Type 0) (Moves : List ℕ �
     unfolding patchLinks joinGroups originOf
     patch-merging s successor clone m b same h =
         let restates = patch-restates (m .states) s successor clone b same in
-        let cores = restated-cores g Begins Closed Moves (m .states) s (patched g successor clone) restates in
+        let cores = restated-cores g Starts Closed Becomes (m .states) s (patched g successor clone) restates in
         let many : length (set (m .states) s (map (patched g successor clone) (getD (m .states) s []))) ≡ length (m .states) = length-set (m .states) s _ in
         record {
-          linked = restated g Begins Closed Moves (m .states) s (patched g successor clone) restates (h .linked);
+          linked = restated g Starts Closed Becomes (m .states) s (patched g successor clone) restates (h .linked);
           enough = omega (arith, h .enough);
           counted = h .counted ∙ sym many;
           origins = λ c k.
@@ -103,7 +112,8 @@ module _ (g : Grammar) (Begins Closed : List ℕ → Type 0) (Moves : List ℕ �
               (rw many below, cores c ∙ q ∙ sym (cores (originOf m c)));
         }
 
-    joined-merging : (s successor t : ℕ) (m : Merge) → (eqb t successor ≡ false → (t < length (m .states)) × (core (getD (m .states) t []) ≡ core (getD (m .states) successor [])))
+    joined-merging : (s successor t : ℕ) (m : Merge)
+        → (eqb t successor ≡ false → (t < length (m .states)) × (core (getD (m .states) t []) ≡ core (getD (m .states) successor [])))
         → Merging rows m → Merging rows (joined g s successor t m)
     unfolding joined joinGroups originOf
     joined-merging s successor t m same h = by-test (eqb t successor) refl
@@ -115,7 +125,7 @@ module _ (g : Grammar) (Begins Closed : List ℕ → Type 0) (Moves : List ℕ �
     clone-merging : (s : ℕ) (m : Merge) → s < length (m .states) → Merging rows m → Merging rows (cloneState s m)
     unfolding cloneState originOf
     clone-merging s m b h = record {
-      linked = copied g Begins Closed Moves (m .states) s b none (h .linked);
+      linked = copied g Starts Closed Becomes (m .states) s b none (h .linked);
       enough = omega (arith, h .enough, more);
       counted = length-append (m .origins) (originOf m s ∷ []) ∙ ap (λ (n : ℕ). n + 1) (h .counted) ∙ sym more;
       origins = λ c k. by-place c (ℕ-discrete c (length (m .states))) (rw more at k);
@@ -145,12 +155,6 @@ module _ (g : Grammar) (Begins Closed : List ℕ → Type 0) (Moves : List ℕ �
             (omega (arith, more), ap core (old c c<) ∙ same ∙ ap core (sym (old (originOf m c) below)))
 
     -- ---- a successor is joined
-    clone-of : (m : Merge) (successor t : ℕ) → Among t (clonesOf m successor) → (t < length (m .states)) × (originOf m t ≡ successor)
-    unfolding clonesOf
-    clone-of m successor t among =
-        let (i, p) = keep-among (λ c. eqb (originOf m c) successor && not (eqb c successor)) (upTo (length (m .states))) among in
-        (upTo-among t (length (m .states)) .0 i, eqb-true _ _ (both-true (eqb (originOf m t) successor) _ p .0))
-
     choice-alike : (m : Merge) (successor t : ℕ) → Merging rows m → Among t (successor ∷ clonesOf m successor) → eqb t successor ≡ false
         → (t < length (m .states)) × (core (getD (m .states) t []) ≡ core (getD (m .states) successor []))
     choice-alike m successor t h among ne =
@@ -165,13 +169,14 @@ module _ (g : Grammar) (Begins Closed : List ℕ → Type 0) (Moves : List ℕ �
           let clone : ℕ = length (m .states) in
           let cloned : Merge = cloneState successor m in
           let P : Merge → Type 0 = Merging rows in
-          let more : length (m .states ++ (getD (m .states) successor [] ∷ [])) ≡ length (m .states) + 1 = length-append (m .states) (getD (m .states) successor [] ∷ []) in
+          let copy : State = getD (m .states) successor [] in
+          let more : length (m .states ++ (copy ∷ [])) ≡ length (m .states) + 1 = length-append (m .states) (copy ∷ []) in
+          let new : getD (m .states ++ (copy ∷ [])) clone [] ≡ copy = getD-at (m .states) copy [] [] clone refl in
+          let old : getD (m .states ++ (copy ∷ [])) successor [] ≡ copy = List·getD-append (m .states) (copy ∷ []) [] successor b in
           holds-pick P (leb (l .states) clone) _ _ (λ _. tt)
           (λ _. holds-pick P (ltb (l .items) (itemCount (cloned .states))) _ _ (λ _. tt)
           (λ _. holds-pick P (canJoin table cloned s clone) _ _
-          (λ _. joined-merging s successor clone cloned
-          (λ _. (omega arith, ap core (getD-at (m .states) (getD (m .states) successor []) [] [] clone refl) ∙ ap core (sym (List·getD-append (m .states) (getD (m .states) successor [] ∷ []) [] successor b))))
-          (clone-merging successor m b h))
+          (λ _. joined-merging s successor clone cloned (λ _. (omega arith, ap core new ∙ ap core (sym old))) (clone-merging successor m b h))
           (λ _. tt)))
 
       with-new : (t : ℕ) (o : Outcome Merge) → Holds (Merging rows) o → Holds (λ j. Merging rows (j .merge)) (withNew t o)
@@ -179,7 +184,8 @@ module _ (g : Grammar) (Begins Closed : List ℕ → Type 0) (Moves : List ℕ �
       with-new t (done m) h = h
       with-new t (refused why) h = tt
 
-      successor-merging : (s successor : ℕ) (m : Merge) → successor < length table → Merging rows m → Holds (λ j. Merging rows (j .merge)) (joinSuccessor l g table s successor m)
+      successor-merging : (s successor : ℕ) (m : Merge) → successor < length table → Merging rows m
+          → Holds (λ j. Merging rows (j .merge)) (joinSuccessor l g table s successor m)
       unfolding joinSuccessor
       successor-merging s successor m b h =
           let choices : List ℕ = successor ∷ clonesOf m successor in
@@ -194,11 +200,13 @@ module _ (g : Grammar) (Begins Closed : List ℕ → Type 0) (Moves : List ℕ �
       successor-row m s successor among = upTo-among successor (length table) .0 (keep-among _ (upTo (length table)) among .0)
 
       walk-merging : (fuel s : ℕ) (m : Merge) → Merging rows m → Holds (Merging rows) (walk l g table fuel s m)
-      walk-merging = walk-keeps l g table (Merging rows) marked-merging (λ m₀ s successor among m h. successor-merging s successor m (successor-row m₀ s successor among) h)
+      walk-merging =
+          walk-keeps l g table (Merging rows) marked-merging
+          (λ m₀ s successor among m h. successor-merging s successor m (successor-row m₀ s successor among) h)
 
   -- ---- visits
   module _ (l : Limits) (sets : Sets) where
-    pub resolve-linked : (s : ℕ) (states : List State) → s < length states → Links states → Holds Links (resolve l g sets s states)
+    pub resolve-linked : (s : ℕ) (states : List State) → s < length states → LinkedStates states → Holds LinkedStates (resolve l g sets s states)
     resolve-linked s states b h =
-        resolve-keeps l g Links (Merging (length states)) take-linked (λ m k. k .linked) states (begun-merging states) sets s
+        resolve-keeps l g LinkedStates (Merging (length states)) take-linked (λ m k. k .linked) states (begun-merging states) sets s
         (λ actions. walk-merging (length states) l (laneTable g sets states s actions) (lane-table-rows g sets states s b actions) (l .states + 1)) h

@@ -1,21 +1,22 @@
--- What the checks of a coded grammar say of its productions: a number has one left and one right side, the start stands on the left of
--- production 0 alone and on no right side.
+-- The numbers of a coded grammar's productions: a number has one left and one right side; the start stands on the left of production 0
+-- alone and on no right side.
 use Prim.Native.Nat.{ℕ, zero, suc, _+_, _-_, _<_, _≤_}
 use mathlib.Core.Path.{_≡_, refl, sym, ap, _∙_}
-use mathlib.Core.Logic.{⊎-elim}
+use mathlib.Core.Logic.{_⊎_, inl, inr, ⊎-elim}
 use mathlib.Core.Bool.{true, _&&_, not, true≢false}
-use mathlib.Core.List.{List, [], _∷_}
+use mathlib.Core.List.{List}
 use native.Mathlib.Omega.{arith}
 use native.Mathlib.Decide.{decLt}
-use lib.ListN.{length, drop}
+use lib.ListN.{length, drop, length-drop}
+use lib.Seq.{getD-drop}
 use lib.Dec.{eqb}
 use borrow.Author.Tests.{eqb-true, eq-eqb, not-false}
-use Rattle.base.specs.Among.{Among, here, later}
+use Rattle.base.specs.Among.{Among}
 use Rattle.base.proofs.Found.{before-first, at-first}
-use Rattle.base.proofs.Lists.{among-none}
+use Rattle.base.proofs.Places.{place}
 use Rattle.base.proofs.Tests.{both-true, either-true, or-false}
 use Rattle.rules.specs.Limits.{Limits}
-use Rattle.rules.specs.Records.{Record, Grammar, at, isLeftSide, badRecord, comesBehind, inSequence, outOfSequence}
+use Rattle.rules.specs.Records.{Record, Grammar, past, at, isLeftSide, badRecord, comesBehind, inSequence, outOfSequence}
 use Rattle.rules.specs.Grammar.{Symbol, nonterminal, symbolsBehind, leftSideOf, start, leftOf}
 use Rattle.rules.specs.Run.{sideLength}
 use Rattle.knuth.specs.Rules.{Rule}
@@ -24,30 +25,24 @@ use Rattle.knuth.proofs.Productions.{side-among, nonterminal-record}
 use Rattle.knuth.proofs.Checked.{in-sequence-behind, names-start-first, start-is-first}
 
 -- ---- records in sequence
-comes-behind-number : (q r : Record) → comesBehind q r ≡ true → (q .production ≤ r .production) × (r .position ≡ 0 → q .production < r .production)
+pub comes-behind : (q r : Record) → comesBehind q r ≡ true
+    → ((r .production ≡ q .production) × (r .position ≡ q .position + 1)) ⊎ ((r .production ≡ q .production + 1) × (r .position ≡ 0))
 unfolding comesBehind
-comes-behind-number q r e =
-    ⊎-elim
-    (λ f. let (a, b) = both-true (eqb (r .production) (q .production)) (eqb (r .position) (q .position + 1)) f in
-    let a′ = eqb-true (r .production) (q .production) a in
-    let b′ = eqb-true (r .position) (q .position + 1) b in
-    (omega arith, λ z. omega arith))
-    (λ f. let (a, _) = both-true (eqb (r .production) (q .production + 1)) (eqb (r .position) 0) f in
-    let a′ = eqb-true (r .production) (q .production + 1) a in
-    (omega arith, λ z. omega arith))
-    (either-true (eqb (r .production) (q .production) && eqb (r .position) (q .position + 1)) (eqb (r .production) (q .production + 1) && eqb (r .position) 0) e)
+comes-behind q r e =
+    let next = eqb (r .production) (q .production) && eqb (r .position) (q .position + 1) in
+    let new = eqb (r .production) (q .production + 1) && eqb (r .position) 0 in
+    ⊎-elim (λ f. let (a, b) = both-true _ _ f in inl (eqb-true _ _ a, eqb-true _ _ b)) (λ f. let (a, b) = both-true _ _ f in inr (eqb-true _ _ a, eqb-true _ _ b))
+    (either-true next new e)
 
--- a record behind the first k is at a place from k on
+number-ascends : (q r : Record) → comesBehind q r ≡ true → (q .production ≤ r .production) × (r .position ≡ 0 → q .production < r .production)
+number-ascends q r e = ⊎-elim (λ (a, b). (omega arith, λ z. omega arith)) (λ (a, b). (omega arith, λ z. omega arith)) (comes-behind q r e)
+
+-- a record behind the first k stands at a place from k on
 among-drop-at : {r : Record} (k : ℕ) (g : Grammar) → Among r (drop k g) → (i : ℕ) × (k ≤ i) × (i < length g) × (at g i ≡ r)
 unfolding at
-among-drop-at k [] m = absurd (among-none (go k m))
-  where
-    go : {r : Record} (k : ℕ) → Among r (drop k []) → Among r []
-    go zero m = m
-    go (suc k) m = m
-among-drop-at zero (q ∷ g) here = (0, omega arith, omega arith, refl)
-among-drop-at zero (q ∷ g) (later m) = let (i, _, h, e) = among-drop-at zero g m in (suc i, omega arith, omega arith, e)
-among-drop-at (suc k) (q ∷ g) m = let (i, l, h, e) = among-drop-at k g m in (suc i, omega arith, omega arith, e)
+among-drop-at k g m =
+    let (j, h, e) = place past m in
+    (k + j, omega arith, omega (arith, length-drop k g), sym (e ∙ getD-drop k g j past))
 
 module _ (l : Limits) (g : Grammar) (checked : Checked l g) where
   pub in-sequence : (i : ℕ) → i < length g → inSequence g i ≡ true
@@ -61,12 +56,12 @@ module _ (l : Limits) (g : Grammar) (checked : Checked l g) where
       → (at g i .production ≤ at g j .production) × (at g j .position ≡ 0 → at g i .production < at g j .production)
   numbers-ascend zero i j e h =
       let e₁ : j ≡ i + 1 = omega arith in
-      rw e₁ (comes-behind-number (at g i) (at g (i + 1)) (in-sequence-behind g i (in-sequence (i + 1) (omega arith))))
+      rw e₁ (number-ascends (at g i) (at g (i + 1)) (in-sequence-behind g i (in-sequence (i + 1) (omega arith))))
   numbers-ascend (suc k) i j e h =
       let m : ℕ = i + suc k in
       let e₁ : j ≡ m + 1 = omega arith in
       let (a, _) = numbers-ascend k i m refl (omega arith) in
-      let (b, c) = comes-behind-number (at g m) (at g (m + 1)) (in-sequence-behind g m (in-sequence (m + 1) (omega arith))) in
+      let (b, c) = number-ascends (at g m) (at g (m + 1)) (in-sequence-behind g m (in-sequence (m + 1) (omega arith))) in
       rw e₁ (omega arith, λ z. omega (arith, c z))
 
   pub first-record : 0 < length g → (at g 0 .production ≡ 0) × (at g 0 .position ≡ 0)
@@ -76,7 +71,7 @@ module _ (l : Limits) (g : Grammar) (checked : Checked l g) where
       (eqb-true _ _ a, eqb-true _ _ b)
 
   -- ---- the left-side record of a production
-  pub left-side-found : {p A : ℕ} {η : List Symbol} (r : Rule g p A η) → leftSideOf g p ≡ r .leftSide
+  left-side-found : {p A : ℕ} {η : List Symbol} (r : Rule g p A η) → leftSideOf g p ≡ r .leftSide
   unfolding leftSideOf isLeftSide
   left-side-found {p} r = omega (arith, not-later, not-earlier)
     where
