@@ -30,7 +30,7 @@ module _ (n : ℕ) (sets : Sets) (xs : List Symbol) where
   unfolding first1
   first1-begun l e = ap (λ (empty : Bool). pick empty (join (beginning n sets xs) l) (first0 n sets xs)) e ∙ unmarked e
 
-  module _ (slot : ℕ) (w : List ℕ) (fits : 8192 ≤ length w) (low : slot < 4224) (p : Room) where
+  module _ (slot : ℕ) (w : List ℕ) (fits : 8192 ≤ length w) (low : slot < 4225) (p : Room) where
     there : (s : TokenSet) → p ≡ putSet slot s (view w) → setAt p slot ≡ s
     there s put = let sized = view-lengths w fits in put-there (view w) p slot s put (omega arith)
 

@@ -12,9 +12,9 @@ use Rattle.rules.specs.Records.{Grammar, at, records, isLeftSide}
 use Rattle.rules.specs.Tokens.{join, within}
 use Rattle.rules.specs.Grammar.{atStart, symbolsBehind, nonterminalCount, firstFault}
 use Rattle.rules.specs.First.{Sets, setOf, first0, addFirst, firstSets}
-use Rattle.room.specs.Areas.{Room, view}
+use Rattle.room.specs.Areas.{Room, view, withSets}
 use Rattle.room.proofs.Lengths.{view-lengths}
-use Rattle.lookahead.specs.Sets.{loadSet, withSets, setAt, putSet}
+use Rattle.lookahead.specs.Sets.{loadSet, setAt, putSet}
 use Rattle.lookahead.proofs.Slots.{same-words, put-there, put-elsewhere, length-stored-set}
 use Rattle.rules.proofs.Laws.{length-records, nonterminal-counted-at}
 use Rattle.grammar.proofs.Coded.{nonterminal-count-below, left-nonterminal}
@@ -61,7 +61,7 @@ module _ (bytes : List ℕ) (n i a slot own : ℕ) (w : List ℕ) (p : Room) (cl
   few : nonterminalCount (records bytes) ≤ 64
   few = nonterminal-count-below (records bytes) clean
 
-  long : length (p .sets) ≡ 4224
+  long : length (p .sets) ≡ 4225
   long = ap (λ (r : Room). length (r .sets)) collected ∙ length-stored-set (view w .sets) slot _ ∙ view-lengths w fits .sets-length
 
   collected-there : setAt p slot ≡ first0 n (firstsIn (records bytes) (view w)) (symbolsBehind (records bytes) i)

@@ -54,4 +54,4 @@ loads-none b (suc m) n = ap₂ _∷_ (load-none n b) (loads-none (suc b) m n)
 
 pub blank-firsts : (g : Grammar) (past : List ℕ) → firstsIn g (blank past) ≡ replicate (nonterminalCount g) 0
 unfolding blank
-blank-firsts g past = loads-none 0 (nonterminalCount g) 4224
+blank-firsts g past = loads-none 0 (nonterminalCount g) 4225

@@ -12,9 +12,9 @@ use Rattle.rules.specs.Records.{Grammar, at, records, isTerminal}
 use Rattle.rules.specs.Tokens.{TokenSet, has, single, join, without}
 use Rattle.rules.specs.Grammar.{Symbol, nonterminal, terminal, symbolOf, sideOf, symbolsBehind, atStart, nonterminalCount, firstFault}
 use Rattle.rules.specs.First.{Sets, setOf, first0}
-use Rattle.room.specs.Areas.{Room, view}
+use Rattle.room.specs.Areas.{Room, view, withSets}
 use Rattle.room.proofs.Lengths.{view-lengths}
-use Rattle.lookahead.specs.Sets.{loadSet, withSets, setAt, putSet}
+use Rattle.lookahead.specs.Sets.{loadSet, setAt, putSet}
 use Rattle.lookahead.proofs.Slots.{store-loaded, put-there, put-again}
 use Rattle.rules.proofs.Laws.{length-records, side-from, nonterminal-counted-at}
 use Rattle.grammar.proofs.Coded.{nonterminal-count-below, symbol-read}
@@ -23,7 +23,7 @@ use Rattle.sets.proofs.Joins.{none-lacks, without-lacks, join-none, join-assoc,
 use Rattle.first.proofs.Loads.{loads-at, loads-before}
 
 -- ---- a set put into a slot
-pub slot-fits : (l : ℕ) (w : List ℕ) (slot : ℕ) → 8192 ≤ l → length w ≡ l → slot < 4224 → slot < length (view w .sets)
+pub slot-fits : (l : ℕ) (w : List ℕ) (slot : ℕ) → 8192 ≤ l → length w ≡ l → slot < 4225 → slot < length (view w .sets)
 slot-fits l w slot fits same low = let sized = view-lengths w (omega arith) in omega arith
 
 module _ (v q : Room) (slot s : ℕ) (put : q ≡ putSet slot s v) where
@@ -59,7 +59,7 @@ module _ (bytes : List ℕ) (n k slot a : ℕ) (b : Bool) (w : List ℕ) (is : b
       let z : 0 + a ≡ a = omega arith in
       loads-at 0 (nonterminalCount (records bytes)) a (view w .sets) (omega arith) ∙ ap (loadSet (view w .sets)) z
 
-  module _ (p : Room) (s : ℕ) (fits : 8192 ≤ length w) (low : slot < 4224) (h : 8 * k + 8 ≤ length bytes) (f : b ≡ false) (z : s ≡ a)
+  module _ (p : Room) (s : ℕ) (fits : 8192 ≤ length w) (low : slot < 4225) (h : 8 * k + 8 ≤ length bytes) (f : b ≡ false) (z : s ≡ a)
       (e : p ≡ putSet slot (join (setAt (view w) slot) (setAt (view w) s)) (view w)) where
     there : setAt p slot ≡ join (setAt (view w) slot) (setOf (firstsIn (records bytes) (view w)) a)
     there =
@@ -75,7 +75,7 @@ module _ (bytes : List ℕ) (n k slot a : ℕ) (b : Bool) (w : List ℕ) (is : b
     unfolding goesOn
     nonterminal-goes r x = rw (symbol-nonterminal f, ← there) x
 
-pub first-slot-low : (bytes : List ℕ) (k a s : ℕ) → firstFault limits (records bytes) ≡ length (records bytes) → 8 * k + 8 ≤ length bytes → a ≡ at (records bytes) k .symbol → s ≡ a → s < 4224
+pub first-slot-low : (bytes : List ℕ) (k a s : ℕ) → firstFault limits (records bytes) ≡ length (records bytes) → 8 * k + 8 ≤ length bytes → a ≡ at (records bytes) k .symbol → s ≡ a → s < 4225
 first-slot-low bytes k a s clean h named e = let l = symbol-read bytes k a clean h named in omega arith
 
 -- ---- first0 by its symbols
@@ -182,5 +182,5 @@ pub walk-cleared : (g : Grammar) (n slot : ℕ) (v q p : Room) (xs : List Symbol
     → p ≡ putSet slot (first0 n (firstsIn g q) xs) q → p ≡ putSet slot (first0 n (firstsIn g v) xs) v
 walk-cleared g n slot v q p xs clean high cleared put = put-again v q slot 0 cleared p _ (rw (firsts-kept v q slot 0 cleared g clean high) at put)
 
-pub slot-cleared : (w w₀ : List ℕ) (slot : ℕ) → 8192 ≤ length w₀ → slot < 4224 → view w ≡ putSet slot 0 (view w₀) → setAt (view w) slot ≡ 0
+pub slot-cleared : (w w₀ : List ℕ) (slot : ℕ) → 8192 ≤ length w₀ → slot < 4225 → view w ≡ putSet slot 0 (view w₀) → setAt (view w) slot ≡ 0
 slot-cleared w w₀ slot fits low e = let sized = view-lengths w₀ fits in put-there (view w₀) (view w) slot 0 e (omega arith)

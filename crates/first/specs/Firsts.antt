@@ -8,8 +8,8 @@ use Rattle.rules.specs.Records.{Grammar, at}
 use Rattle.rules.specs.Tokens.{TokenSet, has, single, join, within, without}
 use Rattle.rules.specs.Grammar.{Symbol, nonterminal, terminal, symbolsBehind, nonterminalCount}
 use Rattle.rules.specs.First.{Sets, setOf, first0, firstSets}
-use Rattle.room.specs.Areas.{Room}
-use Rattle.lookahead.specs.Sets.{loadSet, withSets, setAt}
+use Rattle.room.specs.Areas.{Room, withSets}
+use Rattle.lookahead.specs.Sets.{loadSet, setAt}
 
 -- the m sets in the slots from b on
 unfoldable pub loads : ℕ → ℕ → List ℕ → Sets

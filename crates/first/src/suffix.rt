@@ -22,7 +22,7 @@ use room::slots::first_slot;
 // What can begin the symbol of record k is joined into the slot; says whether the symbols behind it count too.
 fn join_symbol(g: &[u8], n: usize, k: usize, work: &mut [u64], slot: usize) -> bool
     requires { ⌜ (8 * k + 8 ≤ length (now g)) × (firstFault limits (records (now g)) ≡ length (records (now g))) × (n ≤ 62) ⌝ }
-    requires { ⌜ (8192 ≤ length (now work)) × (64 ≤ slot) × (slot < 4224) ⌝ }
+    requires { ⌜ (8192 ≤ length (now work)) × (64 ≤ slot) × (slot < 4225) ⌝ }
     ensures { λ _. ⌜ view (now (work .exit)) ≡ putSet slot (joinSymbol n (firstsIn (records (now (g .entry))) (view (now (work .entry)))) (setAt (view (now (work .entry))) slot) (symbolOf (at (records (now (g .entry))) k))) (view (now (work .entry))) ⌝ }
     ensures { λ r. ⌜ r ≡ goesOn n (firstsIn (records (now (g .entry))) (view (now (work .entry)))) (setAt (view (now (work .entry))) slot) (symbolOf (at (records (now (g .entry))) k)) ⌝ }
 {
@@ -39,7 +39,7 @@ fn join_symbol(g: &[u8], n: usize, k: usize, work: &mut [u64], slot: usize) -> b
 // FIRST of what stands behind the dot of item i, Eof as a mark if it derives the empty string, into a slot that is empty.
 fn walk(g: &[u8], n: usize, i: usize, work: &mut [u64], slot: usize)
     requires { ⌜ (8 * i + 8 ≤ length (now g)) × (firstFault limits (records (now g)) ≡ length (records (now g))) × (n ≤ 62) ⌝ }
-    requires { ⌜ (8192 ≤ length (now work)) × (64 ≤ slot) × (slot < 4224) × (setAt (view (now work)) slot ≡ 0) ⌝ }
+    requires { ⌜ (8192 ≤ length (now work)) × (64 ≤ slot) × (slot < 4225) × (setAt (view (now work)) slot ≡ 0) ⌝ }
     ensures { λ _. ⌜ view (now (work .exit)) ≡ putSet slot (first0 n (firstsIn (records (now (g .entry))) (view (now (work .entry)))) (symbolsBehind (records (now (g .entry))) i)) (view (now (work .entry))) ⌝ }
 {
     let count = record_count(g);
@@ -58,7 +58,7 @@ fn walk(g: &[u8], n: usize, i: usize, work: &mut [u64], slot: usize)
 // FIRST of what stands behind the dot of item i, Eof as a mark if it derives the empty string, into the slot. first/mod.rs: first0
 pub fn first0(g: &[u8], n: usize, i: usize, work: &mut [u64], slot: usize)
     requires { ⌜ (8 * i + 8 ≤ length (now g)) × (firstFault limits (records (now g)) ≡ length (records (now g))) × (n ≤ 62) ⌝ }
-    requires { ⌜ (8192 ≤ length (now work)) × (64 ≤ slot) × (slot < 4224) ⌝ }
+    requires { ⌜ (8192 ≤ length (now work)) × (64 ≤ slot) × (slot < 4225) ⌝ }
     ensures { λ _. ⌜ view (now (work .exit)) ≡ putSet slot (first0 n (firstsIn (records (now (g .entry))) (view (now (work .entry)))) (symbolsBehind (records (now (g .entry))) i)) (view (now (work .entry))) ⌝ }
 {
     clear_set(work, slot);
@@ -69,7 +69,7 @@ pub fn first0(g: &[u8], n: usize, i: usize, work: &mut [u64], slot: usize)
 // first/mod.rs: first0, its mark taken
 pub fn begin(g: &[u8], n: usize, i: usize, work: &mut [u64], slot: usize) -> bool
     requires { ⌜ (8 * i + 8 ≤ length (now g)) × (firstFault limits (records (now g)) ≡ length (records (now g))) × (n ≤ 62) ⌝ }
-    requires { ⌜ (8192 ≤ length (now work)) × (64 ≤ slot) × (slot < 4224) ⌝ }
+    requires { ⌜ (8192 ≤ length (now work)) × (64 ≤ slot) × (slot < 4225) ⌝ }
     ensures { λ _. ⌜ view (now (work .exit)) ≡ putSet slot (beginning n (firstsIn (records (now (g .entry))) (view (now (work .entry)))) (symbolsBehind (records (now (g .entry))) i)) (view (now (work .entry))) ⌝ }
     ensures { λ r. ⌜ r ≡ mayBeEmpty n (firstsIn (records (now (g .entry))) (view (now (work .entry)))) (symbolsBehind (records (now (g .entry))) i) ⌝ }
 {
@@ -81,7 +81,7 @@ pub fn begin(g: &[u8], n: usize, i: usize, work: &mut [u64], slot: usize) -> boo
 // first/mod.rs: first1
 pub fn first1(g: &[u8], n: usize, i: usize, work: &mut [u64], slot: usize, ahead: usize)
     requires { ⌜ (8 * i + 8 ≤ length (now g)) × (firstFault limits (records (now g)) ≡ length (records (now g))) × (n ≤ 62) ⌝ }
-    requires { ⌜ (8192 ≤ length (now work)) × (64 ≤ slot) × (slot < 4224) × (ahead < 4224) × (ahead ≡ slot → ⊥) ⌝ }
+    requires { ⌜ (8192 ≤ length (now work)) × (64 ≤ slot) × (slot < 4225) × (ahead < 4225) × (ahead ≡ slot → ⊥) ⌝ }
     ensures { λ _. ⌜ view (now (work .exit)) ≡ putSet slot (first1 n (firstsIn (records (now (g .entry))) (view (now (work .entry)))) (symbolsBehind (records (now (g .entry))) i) (setAt (view (now (work .entry))) ahead)) (view (now (work .entry))) ⌝ }
 {
     if !begin(g, n, i, work, slot) {

@@ -1,3 +1,2 @@
 pub mod Changes
-pub mod Shifts
 pub mod Slots

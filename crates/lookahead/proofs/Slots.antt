@@ -5,8 +5,8 @@ use mathlib.Core.List.{List}
 use lib.ListN.{length, length-set}
 use lib.Seq.{ext-getD, getD-set-same, getD-set-other, set-getD, set-set}
 use Rattle.base.specs.Fill.{zeros}
-use Rattle.room.specs.Areas.{Room}
-use Rattle.lookahead.specs.Sets.{loadSet, storeSet, withSets, setAt, putSet}
+use Rattle.room.specs.Areas.{Room, withSets}
+use Rattle.lookahead.specs.Sets.{loadSet, storeSet, setAt, putSet}
 
 module _ (words : List ℕ) (slot s : ℕ) where
   pub load-stored : slot < length words → loadSet (storeSet slot s words) slot ≡ s

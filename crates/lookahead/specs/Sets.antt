@@ -1,10 +1,14 @@
 -- The token set in a slot of the room. Here a set is one word of the area of sets, and nothing else knows that: `loadSet` and
 -- `storeSet` are shut, and their laws are in proofs/Slots.antt.
-use Prim.Native.Nat.{ℕ}
+use Prim.Native.Nat.{ℕ, _<_}
+use mathlib.Core.Bool.{Bool, not}
 use mathlib.Core.List.{List}
 use lib.ListN.{getD, set}
-use Rattle.rules.specs.Tokens.{TokenSet}
-use Rattle.room.specs.Areas.{Room}
+use Rattle.rules.specs.Tokens.{TokenSet, has, single, join, within, without}
+use Rattle.room.specs.Areas.{Room, withSets}
+
+abbrev pub IsToken : ℕ → Type 0
+IsToken token = token < 64
 
 unfoldable pub loadSet : List ℕ → ℕ → TokenSet
 loadSet words slot = getD words slot 0
@@ -15,10 +19,26 @@ storeSet slot s words = set words slot s
 abbrev pub setAt : Room → ℕ → TokenSet
 setAt r slot = loadSet (r .sets) slot
 
--- the room with other words in its area of sets
-abbrev pub withSets : List ℕ → Room → Room
-withSets words r = record { entries = r .entries; firstEntries = r .firstEntries; parents = r .parents; entered = r .entered; successors = r .successors; origins = r .origins; heads = r .heads; walked = r .walked; actions = r .actions; sets = words; rest = r .rest }
-
--- the room with s in a slot
+-- ---- the room with s in a slot
 abbrev pub putSet : ℕ → TokenSet → Room → Room
 putSet slot s r = withSets (storeSet slot s (r .sets)) r
+
+-- ---- with the set of another slot in it, with that joined in, and whether it lacked some of that
+abbrev pub copySet : ℕ → ℕ → Room → Room
+copySet to from r = putSet to (setAt r from) r
+
+abbrev pub joinSet : ℕ → ℕ → Room → Room
+joinSet into from r = putSet into (join (setAt r into) (setAt r from)) r
+
+abbrev pub lacksSome : ℕ → ℕ → Room → Bool
+lacksSome into from r = not (within (setAt r from) (setAt r into))
+
+-- ---- with a token in or out, and whether it was in
+abbrev pub insertToken : ℕ → ℕ → Room → Room
+insertToken slot token r = putSet slot (join (setAt r slot) (single token)) r
+
+abbrev pub takeToken : ℕ → ℕ → Room → Room
+takeToken slot token r = putSet slot (without (setAt r slot) token) r
+
+abbrev pub hasToken : ℕ → ℕ → Room → Bool
+hasToken slot token r = has (setAt r slot) token

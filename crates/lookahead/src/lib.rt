@@ -1,27 +1,40 @@
 // Token sets by slot of the work room: lookahead.rs. A caller names slots and tokens, and never sees how a set is kept.
 ghost use mathlib.Core.Path.{_≡_};
 ghost use mathlib.Core.Bool.{not};
-ghost use Prim.Native.Nat.{_≤_, _<_};
-ghost use lib.ListN.{length};
 ghost use lib.Dec.{eqb};
-ghost use Rattle.rules.specs.Tokens.{has, single, join, disjoint, within, without, eof, all};
+ghost use Rattle.rules.specs.Tokens.{single, disjoint, within, eof, all};
 ghost use Rattle.room.specs.Areas.{view};
-ghost use Rattle.lookahead.specs.Sets.{setAt, putSet};
+ghost use Rattle.room.specs.Bounds.{LongEnough, IsSlot, FewTerminals};
+ghost use Rattle.lookahead.specs.Sets.{IsToken, setAt, putSet, copySet, joinSet, lacksSome, insertToken, takeToken, hasToken};
+use room::areas::get_set_word;
+use room::areas::put_set_word;
 use words::all_word;
-use words::load;
 use words::single_word;
-use words::store;
 use words::word_disjoint;
 use words::word_has;
 use words::word_join;
 use words::word_within;
 use words::word_without;
 
-mod words;
+// The set in a slot, as a word.
+fn load(work: &[u64], slot: usize) -> u64
+    requires { ⌜ LongEnough (now work) × IsSlot slot ⌝ }
+    ensures { λ r. ⌜ r ≡ setAt (view (now (work .entry))) slot ⌝ }
+{
+    get_set_word(work, slot)
+}
+
+// s becomes the set in a slot.
+fn store(work: &mut [u64], slot: usize, s: u64)
+    requires { ⌜ LongEnough (now work) × IsSlot slot ⌝ }
+    ensures { λ _. ⌜ view (now (work .exit)) ≡ putSet slot s (view (now (work .entry))) ⌝ }
+{
+    put_set_word(work, slot, s);
+}
 
 // The empty set. lookahead.rs: TokenSet::new
 pub fn clear_set(work: &mut [u64], slot: usize)
-    requires { ⌜ (8192 ≤ length (now work)) × (slot < 4224) ⌝ }
+    requires { ⌜ LongEnough (now work) × IsSlot slot ⌝ }
     ensures { λ _. ⌜ view (now (work .exit)) ≡ putSet slot 0 (view (now (work .entry))) ⌝ }
 {
     store(work, slot, 0);
@@ -29,7 +42,7 @@ pub fn clear_set(work: &mut [u64], slot: usize)
 
 // Only the token. lookahead.rs: From<Token>
 pub fn put_single(work: &mut [u64], slot: usize, token: usize)
-    requires { ⌜ (8192 ≤ length (now work)) × (slot < 4224) × (token < 64) ⌝ }
+    requires { ⌜ LongEnough (now work) × IsSlot slot × IsToken token ⌝ }
     ensures { λ _. ⌜ view (now (work .exit)) ≡ putSet slot (single token) (view (now (work .entry))) ⌝ }
 {
     let s = single_word(token);
@@ -38,7 +51,7 @@ pub fn put_single(work: &mut [u64], slot: usize, token: usize)
 
 // Only Eof, with n terminals. lookahead.rs: TokenSet::eof
 pub fn put_eof(work: &mut [u64], slot: usize, n: usize)
-    requires { ⌜ (8192 ≤ length (now work)) × (slot < 4224) × (n ≤ 62) ⌝ }
+    requires { ⌜ LongEnough (now work) × IsSlot slot × FewTerminals n ⌝ }
     ensures { λ _. ⌜ view (now (work .exit)) ≡ putSet slot (eof n) (view (now (work .entry))) ⌝ }
 {
     put_single(work, slot, n);
@@ -46,7 +59,7 @@ pub fn put_eof(work: &mut [u64], slot: usize, n: usize)
 
 // The n terminals and Eof. lookahead.rs: TokenSet::all
 pub fn put_all(work: &mut [u64], slot: usize, n: usize)
-    requires { ⌜ (8192 ≤ length (now work)) × (slot < 4224) × (n ≤ 62) ⌝ }
+    requires { ⌜ LongEnough (now work) × IsSlot slot × FewTerminals n ⌝ }
     ensures { λ _. ⌜ view (now (work .exit)) ≡ putSet slot (all n) (view (now (work .entry))) ⌝ }
 {
     let s = all_word(n);
@@ -55,8 +68,8 @@ pub fn put_all(work: &mut [u64], slot: usize, n: usize)
 
 // The set of the slot `from` in the slot `to` too. lookahead.rs: Clone
 pub fn copy_set(work: &mut [u64], to: usize, from: usize)
-    requires { ⌜ (8192 ≤ length (now work)) × (to < 4224) × (from < 4224) ⌝ }
-    ensures { λ _. ⌜ view (now (work .exit)) ≡ putSet to (setAt (view (now (work .entry))) from) (view (now (work .entry))) ⌝ }
+    requires { ⌜ LongEnough (now work) × IsSlot to × IsSlot from ⌝ }
+    ensures { λ _. ⌜ view (now (work .exit)) ≡ copySet to from (view (now (work .entry))) ⌝ }
 {
     let s = load(work, from);
     store(work, to, s);
@@ -65,9 +78,9 @@ pub fn copy_set(work: &mut [u64], to: usize, from: usize)
 // The set of the slot `from` is joined into that of the slot `into`; says whether that gave it a token that it lacked.
 // lookahead.rs: union_with
 pub fn join_into(work: &mut [u64], into: usize, from: usize) -> bool
-    requires { ⌜ (8192 ≤ length (now work)) × (into < 4224) × (from < 4224) ⌝ }
-    ensures { λ _. ⌜ view (now (work .exit)) ≡ putSet into (join (setAt (view (now (work .entry))) into) (setAt (view (now (work .entry))) from)) (view (now (work .entry))) ⌝ }
-    ensures { λ r. ⌜ r ≡ not (within (setAt (view (now (work .entry))) from) (setAt (view (now (work .entry))) into)) ⌝ }
+    requires { ⌜ LongEnough (now work) × IsSlot into × IsSlot from ⌝ }
+    ensures { λ _. ⌜ view (now (work .exit)) ≡ joinSet into from (view (now (work .entry))) ⌝ }
+    ensures { λ r. ⌜ r ≡ lacksSome into from (view (now (work .entry))) ⌝ }
 {
     let a = load(work, into);
     let b = load(work, from);
@@ -78,9 +91,9 @@ pub fn join_into(work: &mut [u64], into: usize, from: usize) -> bool
 
 // The token is joined in; says whether the set lacked it. lookahead.rs: insert
 pub fn insert(work: &mut [u64], slot: usize, token: usize) -> bool
-    requires { ⌜ (8192 ≤ length (now work)) × (slot < 4224) × (token < 64) ⌝ }
-    ensures { λ _. ⌜ view (now (work .exit)) ≡ putSet slot (join (setAt (view (now (work .entry))) slot) (single token)) (view (now (work .entry))) ⌝ }
-    ensures { λ r. ⌜ r ≡ not (has (setAt (view (now (work .entry))) slot) token) ⌝ }
+    requires { ⌜ LongEnough (now work) × IsSlot slot × IsToken token ⌝ }
+    ensures { λ _. ⌜ view (now (work .exit)) ≡ insertToken slot token (view (now (work .entry))) ⌝ }
+    ensures { λ r. ⌜ r ≡ not (hasToken slot token (view (now (work .entry)))) ⌝ }
 {
     let a = load(work, slot);
     let b = single_word(token);
@@ -91,9 +104,9 @@ pub fn insert(work: &mut [u64], slot: usize, token: usize) -> bool
 
 // Eof, or any token, is taken out; says whether it was in. lookahead.rs: take_eof
 pub fn take(work: &mut [u64], slot: usize, token: usize) -> bool
-    requires { ⌜ (8192 ≤ length (now work)) × (slot < 4224) × (token < 64) ⌝ }
-    ensures { λ _. ⌜ view (now (work .exit)) ≡ putSet slot (without (setAt (view (now (work .entry))) slot) token) (view (now (work .entry))) ⌝ }
-    ensures { λ r. ⌜ r ≡ has (setAt (view (now (work .entry))) slot) token ⌝ }
+    requires { ⌜ LongEnough (now work) × IsSlot slot × IsToken token ⌝ }
+    ensures { λ _. ⌜ view (now (work .exit)) ≡ takeToken slot token (view (now (work .entry))) ⌝ }
+    ensures { λ r. ⌜ r ≡ hasToken slot token (view (now (work .entry))) ⌝ }
 {
     let a = load(work, slot);
     let b = word_without(a, token);
@@ -103,8 +116,8 @@ pub fn take(work: &mut [u64], slot: usize, token: usize) -> bool
 
 // lookahead.rs: contains
 pub fn contains(work: &[u64], slot: usize, token: usize) -> bool
-    requires { ⌜ (8192 ≤ length (now work)) × (slot < 4224) × (token < 64) ⌝ }
-    ensures { λ r. ⌜ r ≡ has (setAt (view (now (work .entry))) slot) token ⌝ }
+    requires { ⌜ LongEnough (now work) × IsSlot slot × IsToken token ⌝ }
+    ensures { λ r. ⌜ r ≡ hasToken slot token (view (now (work .entry))) ⌝ }
 {
     let a = load(work, slot);
     word_has(a, token)
@@ -112,7 +125,7 @@ pub fn contains(work: &[u64], slot: usize, token: usize) -> bool
 
 // No token is in the set.
 pub fn is_empty(work: &[u64], slot: usize) -> bool
-    requires { ⌜ (8192 ≤ length (now work)) × (slot < 4224) ⌝ }
+    requires { ⌜ LongEnough (now work) × IsSlot slot ⌝ }
     ensures { λ r. ⌜ r ≡ eqb (setAt (view (now (work .entry))) slot) 0 ⌝ }
 {
     load(work, slot) == 0
@@ -120,7 +133,7 @@ pub fn is_empty(work: &[u64], slot: usize) -> bool
 
 // The two sets are equal. lookahead.rs: Eq
 pub fn is_equal(work: &[u64], x: usize, y: usize) -> bool
-    requires { ⌜ (8192 ≤ length (now work)) × (x < 4224) × (y < 4224) ⌝ }
+    requires { ⌜ LongEnough (now work) × IsSlot x × IsSlot y ⌝ }
     ensures { λ r. ⌜ r ≡ eqb (setAt (view (now (work .entry))) x) (setAt (view (now (work .entry))) y) ⌝ }
 {
     load(work, x) == load(work, y)
@@ -128,7 +141,7 @@ pub fn is_equal(work: &[u64], x: usize, y: usize) -> bool
 
 // No token is in both sets. lookahead.rs: is_disjoint
 pub fn is_disjoint(work: &[u64], x: usize, y: usize) -> bool
-    requires { ⌜ (8192 ≤ length (now work)) × (x < 4224) × (y < 4224) ⌝ }
+    requires { ⌜ LongEnough (now work) × IsSlot x × IsSlot y ⌝ }
     ensures { λ r. ⌜ r ≡ disjoint (setAt (view (now (work .entry))) x) (setAt (view (now (work .entry))) y) ⌝ }
 {
     let a = load(work, x);
@@ -138,7 +151,7 @@ pub fn is_disjoint(work: &[u64], x: usize, y: usize) -> bool
 
 // Every token of the slot x is in the slot y.
 pub fn is_within(work: &[u64], x: usize, y: usize) -> bool
-    requires { ⌜ (8192 ≤ length (now work)) × (x < 4224) × (y < 4224) ⌝ }
+    requires { ⌜ LongEnough (now work) × IsSlot x × IsSlot y ⌝ }
     ensures { λ r. ⌜ r ≡ within (setAt (view (now (work .entry))) x) (setAt (view (now (work .entry))) y) ⌝ }
 {
     let a = load(work, x);

@@ -1,10 +1,11 @@
 -- What was packed is taken apart again, and what was taken apart is packed again.
-use Prim.Native.Nat.{ℕ, _<_}
+use Prim.Native.Nat.{ℕ}
 use mathlib.Core.Path.{_≡_}
 use native.Mathlib.Omega.{arith}
+use Rattle.room.specs.Bounds.{IsPart}
 use Rattle.room.specs.Packed.{packed, low, middle, high}
 
-module _ (a b c : ℕ) (l : a < 65536) (m : b < 65536) where
+module _ (a b c : ℕ) (l : IsPart a) (m : IsPart b) where
   pub low-packed : low (packed a b c) ≡ a
   unfolding packed low
   low-packed = omega arith
@@ -18,11 +19,11 @@ module _ (a b c : ℕ) (l : a < 65536) (m : b < 65536) where
   high-packed = omega arith
 
 module _ (v : ℕ) where
-  pub low-lt : low v < 65536
+  pub low-lt : IsPart (low v)
   unfolding low
   low-lt = omega arith
 
-  pub middle-lt : middle v < 65536
+  pub middle-lt : IsPart (middle v)
   unfolding middle
   middle-lt = omega arith
 

@@ -1,6 +1,7 @@
 -- The work room as the areas that it holds. Nothing else knows at which number of the room an area begins.
 --
--- The token sets come last, so that no other area moves if a set takes more words.
+-- The token sets come last, so that no other area moves if a set takes more words. An area with two uses is never in both at once, and each
+-- use begins by filling it.
 use Prim.Native.Nat.{ℕ}
 use mathlib.Core.List.{List, _++_}
 use lib.ListN.{drop, set}
@@ -8,19 +9,22 @@ use Rattle.base.specs.Part.{part}
 use Rattle.base.specs.Fill.{zeros}
 
 pub record Room : Type 0 where
-  -- item, next state and mark of each entry
+  -- item and next state of each entry
   pub entries : List ℕ
   -- each state's first entry, and behind the last state the end of the entries
   pub firstEntries : List ℕ
-  -- the state and the symbol that each state was first reached by
-  pub parents : List ℕ
-  -- lane table: bit c says that column c has an entry at the state
+  -- while states are built: the state and the symbol that each state was first reached by, a number for each state;
+  -- while a lane is traced: the items visited in each state, a bit for each item, eight words for each state
+  pub visited : List ℕ
+  -- lane table: 1 where something was entered at the state, else 0
   pub entered : List ℕ
-  -- lane table: each state's successors, a bit for each state, two words a state
+  -- lane table: each state's successors, a bit for each state, two words for each state
   pub successors : List ℕ
-  -- the state that each clone was made of, itself for any other
+  -- while a lane table is traced: bit p of number s says that state p links to state s, for p below 64;
+  -- while states are merged: the state that each clone was made of, itself for any other
   pub origins : List ℕ
-  -- the head of each state's group
+  -- while a lane table is traced: bit p of number s says that state 64 + p links to state s;
+  -- while states are merged: the head of each state's group
   pub heads : List ℕ
   -- the states that the merge has walked, a bit for each
   pub walked : List ℕ
@@ -35,60 +39,91 @@ unfoldable pub view : List ℕ → Room
 view w = record {
   entries = part 0 2048 w;
   firstEntries = part 2048 129 w;
-  parents = part 2177 128 w;
-  entered = part 2305 128 w;
-  successors = part 2433 256 w;
-  origins = part 2689 128 w;
-  heads = part 2817 128 w;
-  walked = part 2945 2 w;
-  actions = part 2947 16 w;
-  sets = part 2963 4224 w;
-  rest = drop 7187 w;
+  visited = part 2177 1024 w;
+  entered = part 3201 128 w;
+  successors = part 3329 256 w;
+  origins = part 3585 128 w;
+  heads = part 3713 128 w;
+  walked = part 3841 2 w;
+  actions = part 3843 16 w;
+  sets = part 3859 4225 w;
+  rest = drop 8084 w;
 }
+
+-- ---- the room with other numbers in an area
+abbrev pub withEntries : List ℕ → Room → Room
+withEntries l r = record { entries = l; firstEntries = r .firstEntries; visited = r .visited; entered = r .entered; successors = r .successors; origins = r .origins; heads = r .heads; walked = r .walked; actions = r .actions; sets = r .sets; rest = r .rest }
+
+abbrev pub withFirstEntries : List ℕ → Room → Room
+withFirstEntries l r = record { entries = r .entries; firstEntries = l; visited = r .visited; entered = r .entered; successors = r .successors; origins = r .origins; heads = r .heads; walked = r .walked; actions = r .actions; sets = r .sets; rest = r .rest }
+
+abbrev pub withVisited : List ℕ → Room → Room
+withVisited l r = record { entries = r .entries; firstEntries = r .firstEntries; visited = l; entered = r .entered; successors = r .successors; origins = r .origins; heads = r .heads; walked = r .walked; actions = r .actions; sets = r .sets; rest = r .rest }
+
+abbrev pub withEntered : List ℕ → Room → Room
+withEntered l r = record { entries = r .entries; firstEntries = r .firstEntries; visited = r .visited; entered = l; successors = r .successors; origins = r .origins; heads = r .heads; walked = r .walked; actions = r .actions; sets = r .sets; rest = r .rest }
+
+abbrev pub withSuccessors : List ℕ → Room → Room
+withSuccessors l r = record { entries = r .entries; firstEntries = r .firstEntries; visited = r .visited; entered = r .entered; successors = l; origins = r .origins; heads = r .heads; walked = r .walked; actions = r .actions; sets = r .sets; rest = r .rest }
+
+abbrev pub withOrigins : List ℕ → Room → Room
+withOrigins l r = record { entries = r .entries; firstEntries = r .firstEntries; visited = r .visited; entered = r .entered; successors = r .successors; origins = l; heads = r .heads; walked = r .walked; actions = r .actions; sets = r .sets; rest = r .rest }
+
+abbrev pub withHeads : List ℕ → Room → Room
+withHeads l r = record { entries = r .entries; firstEntries = r .firstEntries; visited = r .visited; entered = r .entered; successors = r .successors; origins = r .origins; heads = l; walked = r .walked; actions = r .actions; sets = r .sets; rest = r .rest }
+
+abbrev pub withWalked : List ℕ → Room → Room
+withWalked l r = record { entries = r .entries; firstEntries = r .firstEntries; visited = r .visited; entered = r .entered; successors = r .successors; origins = r .origins; heads = r .heads; walked = l; actions = r .actions; sets = r .sets; rest = r .rest }
+
+abbrev pub withActions : List ℕ → Room → Room
+withActions l r = record { entries = r .entries; firstEntries = r .firstEntries; visited = r .visited; entered = r .entered; successors = r .successors; origins = r .origins; heads = r .heads; walked = r .walked; actions = l; sets = r .sets; rest = r .rest }
+
+abbrev pub withSets : List ℕ → Room → Room
+withSets l r = record { entries = r .entries; firstEntries = r .firstEntries; visited = r .visited; entered = r .entered; successors = r .successors; origins = r .origins; heads = r .heads; walked = r .walked; actions = r .actions; sets = l; rest = r .rest }
 
 -- ---- the room with one number of an area changed
 abbrev pub putEntry : ℕ → ℕ → Room → Room
-putEntry i v r = record { entries = set (r .entries) i v; firstEntries = r .firstEntries; parents = r .parents; entered = r .entered; successors = r .successors; origins = r .origins; heads = r .heads; walked = r .walked; actions = r .actions; sets = r .sets; rest = r .rest }
+putEntry i v r = withEntries (set (r .entries) i v) r
 
 abbrev pub putFirstEntry : ℕ → ℕ → Room → Room
-putFirstEntry i v r = record { entries = r .entries; firstEntries = set (r .firstEntries) i v; parents = r .parents; entered = r .entered; successors = r .successors; origins = r .origins; heads = r .heads; walked = r .walked; actions = r .actions; sets = r .sets; rest = r .rest }
+putFirstEntry i v r = withFirstEntries (set (r .firstEntries) i v) r
 
-abbrev pub putParent : ℕ → ℕ → Room → Room
-putParent i v r = record { entries = r .entries; firstEntries = r .firstEntries; parents = set (r .parents) i v; entered = r .entered; successors = r .successors; origins = r .origins; heads = r .heads; walked = r .walked; actions = r .actions; sets = r .sets; rest = r .rest }
+abbrev pub putVisited : ℕ → ℕ → Room → Room
+putVisited i v r = withVisited (set (r .visited) i v) r
 
 abbrev pub putEntered : ℕ → ℕ → Room → Room
-putEntered i v r = record { entries = r .entries; firstEntries = r .firstEntries; parents = r .parents; entered = set (r .entered) i v; successors = r .successors; origins = r .origins; heads = r .heads; walked = r .walked; actions = r .actions; sets = r .sets; rest = r .rest }
+putEntered i v r = withEntered (set (r .entered) i v) r
 
 abbrev pub putSuccessors : ℕ → ℕ → Room → Room
-putSuccessors i v r = record { entries = r .entries; firstEntries = r .firstEntries; parents = r .parents; entered = r .entered; successors = set (r .successors) i v; origins = r .origins; heads = r .heads; walked = r .walked; actions = r .actions; sets = r .sets; rest = r .rest }
+putSuccessors i v r = withSuccessors (set (r .successors) i v) r
 
 abbrev pub putOrigin : ℕ → ℕ → Room → Room
-putOrigin i v r = record { entries = r .entries; firstEntries = r .firstEntries; parents = r .parents; entered = r .entered; successors = r .successors; origins = set (r .origins) i v; heads = r .heads; walked = r .walked; actions = r .actions; sets = r .sets; rest = r .rest }
+putOrigin i v r = withOrigins (set (r .origins) i v) r
 
 abbrev pub putHead : ℕ → ℕ → Room → Room
-putHead i v r = record { entries = r .entries; firstEntries = r .firstEntries; parents = r .parents; entered = r .entered; successors = r .successors; origins = r .origins; heads = set (r .heads) i v; walked = r .walked; actions = r .actions; sets = r .sets; rest = r .rest }
+putHead i v r = withHeads (set (r .heads) i v) r
 
 abbrev pub putWalked : ℕ → ℕ → Room → Room
-putWalked i v r = record { entries = r .entries; firstEntries = r .firstEntries; parents = r .parents; entered = r .entered; successors = r .successors; origins = r .origins; heads = r .heads; walked = set (r .walked) i v; actions = r .actions; sets = r .sets; rest = r .rest }
+putWalked i v r = withWalked (set (r .walked) i v) r
 
 abbrev pub putAction : ℕ → ℕ → Room → Room
-putAction i v r = record { entries = r .entries; firstEntries = r .firstEntries; parents = r .parents; entered = r .entered; successors = r .successors; origins = r .origins; heads = r .heads; walked = r .walked; actions = set (r .actions) i v; sets = r .sets; rest = r .rest }
+putAction i v r = withActions (set (r .actions) i v) r
 
 abbrev pub putSetWord : ℕ → ℕ → Room → Room
-putSetWord i v r = record { entries = r .entries; firstEntries = r .firstEntries; parents = r .parents; entered = r .entered; successors = r .successors; origins = r .origins; heads = r .heads; walked = r .walked; actions = r .actions; sets = set (r .sets) i v; rest = r .rest }
+putSetWord i v r = withSets (set (r .sets) i v) r
 
 -- ---- a room whose first 8,192 numbers are zero, and the numbers past them
 unfoldable pub blank : List ℕ → Room
 blank past = record {
   entries = zeros 2048;
   firstEntries = zeros 129;
-  parents = zeros 128;
+  visited = zeros 1024;
   entered = zeros 128;
   successors = zeros 256;
   origins = zeros 128;
   heads = zeros 128;
   walked = zeros 2;
   actions = zeros 16;
-  sets = zeros 4224;
-  rest = zeros 1005 ++ past;
+  sets = zeros 4225;
+  rest = zeros 108 ++ past;
 }

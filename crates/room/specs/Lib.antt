@@ -1,3 +1,4 @@
 pub mod Areas
+pub mod Bounds
 pub mod Packed
 pub mod Slots

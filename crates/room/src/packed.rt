@@ -1,10 +1,11 @@
 // Entries and parents as single numbers of the room: put together by `+ *`, taken apart by `/ %`.
 ghost use mathlib.Core.Path.{_≡_};
-ghost use Prim.Native.Nat.{_<_};
-ghost use Rattle.room.specs.Packed.{packed, low, middle, high};
+ghost use Rattle.room.specs.Bounds.{IsPart};
+ghost use Rattle.room.specs.Packed.{packed, low, middle, high, entryOf, parentOf};
+use rules::StateIndex;
 
 fn pack(a: usize, b: usize, c: usize) -> u64
-    requires { ⌜ (a < 65536) × (b < 65536) × (c < 65536) ⌝ }
+    requires { ⌜ IsPart a × IsPart b × IsPart c ⌝ }
     ensures { λ r. ⌜ r ≡ packed a b c ⌝ }
 {
     (a + 65536 * b + 4294967296 * c) as u64
@@ -28,12 +29,12 @@ fn high_of(v: u64) -> usize
     (v / 4294967296) as usize
 }
 
-// An entry of its item, its next state and its mark.
-pub fn entry_of(item: usize, next: usize, mark: usize) -> u64
-    requires { ⌜ (item < 65536) × (next < 65536) × (mark < 65536) ⌝ }
-    ensures { λ r. ⌜ r ≡ packed item next mark ⌝ }
+// An entry of its item and its next state.
+pub fn entry_of(item: usize, next: StateIndex) -> u64
+    requires { ⌜ IsPart item × IsPart (next .0) ⌝ }
+    ensures { λ r. ⌜ r ≡ entryOf item next ⌝ }
 {
-    pack(item, next, mark)
+    pack(item, next.0, 0)
 }
 
 pub fn entry_item(entry: u64) -> usize
@@ -42,30 +43,24 @@ pub fn entry_item(entry: u64) -> usize
     low_of(entry)
 }
 
-pub fn entry_next(entry: u64) -> usize
-    ensures { λ r. ⌜ r ≡ middle entry ⌝ }
+pub fn entry_next(entry: u64) -> StateIndex
+    ensures { λ r. ⌜ r .0 ≡ middle entry ⌝ }
 {
-    middle_of(entry)
-}
-
-pub fn entry_mark(entry: u64) -> usize
-    ensures { λ r. ⌜ r ≡ high entry ⌝ }
-{
-    high_of(entry)
+    StateIndex(middle_of(entry))
 }
 
 // A state's parent: the state that led to it, and the number and kind of the symbol.
-pub fn parent_of(state: usize, symbol: usize, kind: usize) -> u64
-    requires { ⌜ (state < 65536) × (symbol < 65536) × (kind < 65536) ⌝ }
-    ensures { λ r. ⌜ r ≡ packed state symbol kind ⌝ }
+pub fn parent_of(state: StateIndex, symbol: usize, kind: usize) -> u64
+    requires { ⌜ IsPart (state .0) × IsPart symbol × IsPart kind ⌝ }
+    ensures { λ r. ⌜ r ≡ parentOf state symbol kind ⌝ }
 {
-    pack(state, symbol, kind)
+    pack(state.0, symbol, kind)
 }
 
-pub fn parent_state(parent: u64) -> usize
-    ensures { λ r. ⌜ r ≡ low parent ⌝ }
+pub fn parent_state(parent: u64) -> StateIndex
+    ensures { λ r. ⌜ r .0 ≡ low parent ⌝ }
 {
-    low_of(parent)
+    StateIndex(low_of(parent))
 }
 
 pub fn parent_symbol(parent: u64) -> usize

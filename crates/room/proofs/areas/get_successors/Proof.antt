@@ -5,4 +5,12 @@ use Rattle.room.proofs.areas.get_successors.Statement.{statement}
 use Rattle.room.proofs.areas.get_successors.Tie as tie
 
 pub get-successors-spec : {M : Type 1} → statement M
-get-successors-spec = tie.close (tie.spec (λ c. search needs) (λ c. search needs) (λ c. search needs) (λ c. search (needs, successors-at)))
+get-successors-spec =
+    tie.close
+    (tie.spec
+    (λ c. search needs)
+    (λ c. search needs)
+    (λ c. search needs)
+    (λ c. search needs)
+    (λ c. search needs)
+    (λ c. search (needs, successors-at)))
