@@ -4,13 +4,14 @@ use Prim.Native.Nat.{ℕ, zero, suc, _+_, _-_, _<_, _≤_}
 use mathlib.Core.Path.{_≡_, refl, sym, ap, ap₂, _∙_}
 use mathlib.Core.Logic.{⊎-elim}
 use mathlib.Core.Bool.{Bool, true, false}
-use mathlib.Core.List.{List, [], _∷_, _++_}
+use mathlib.Core.List.{List, [], _∷_, _++_, map}
 use native.Mathlib.Omega.{arith}
 use native.Mathlib.Numerals.{add-one}
 use lib.ListN.{length}
+use Rattle.base.specs.Pick.{pick}
 use Rattle.base.specs.Among.{Among}
 use Rattle.base.specs.Each.{eachFrom}
-use Rattle.base.specs.Lists.{someOf}
+use Rattle.base.specs.Lists.{sum, keep, someOf}
 use Rattle.base.proofs.Lists.{among-none, among-cons}
 
 module _ {A : Type 0} where
@@ -70,3 +71,30 @@ module _ {A : Type 0} (test : A → Bool) (f : ℕ → A) (n k : ℕ) (v : Bool)
   pub each-some-end : n ≤ k → someOf test (eachFrom f k (n - k)) ≡ v → false ≡ v
   unfolding someOf
   each-some-end h e = rw (each-none f n k h) at e
+
+-- how many elements pass a test
+module _ {A : Type 0} (test : A → Bool) (f : ℕ → A) (n k a t : ℕ) where
+  pub each-count-turn : (d : ℕ) → k < n → a + length (keep test (eachFrom f k (n - k))) ≡ t → d ≡ pick (test (f k)) 1 0 → a + d + length (keep test (eachFrom f (k + 1) (n - (k + 1)))) ≡ t
+  unfolding keep
+  each-count-turn d h e p = go (test (f k)) p (rw (each-more f n k h) at e)
+    where
+      later : List A
+      later = keep test (eachFrom f (k + 1) (n - (k + 1)))
+
+      go : (b : Bool) → d ≡ pick b 1 0 → a + length (pick b (f k ∷ later) later) ≡ t → a + d + length later ≡ t
+      go true p e = omega arith
+      go false p e = omega arith
+
+  pub each-count-end : n ≤ k → a + length (keep test (eachFrom f k (n - k))) ≡ t → a ≡ t
+  unfolding keep
+  each-count-end h e = let l : a + 0 ≡ t = rw (each-none f n k h) at e in omega arith
+
+-- the sum of what the elements have
+module _ {A : Type 0} (value : A → ℕ) (f : ℕ → A) (n k a t : ℕ) where
+  pub each-sum-turn : (d : ℕ) → k < n → a + sum (map value (eachFrom f k (n - k))) ≡ t → d ≡ value (f k) → a + d + sum (map value (eachFrom f (k + 1) (n - (k + 1)))) ≡ t
+  unfolding sum
+  each-sum-turn d h e p = let l : a + (value (f k) + sum (map value (eachFrom f (k + 1) (n - (k + 1))))) ≡ t = rw (each-more f n k h) at e in omega arith
+
+  pub each-sum-end : n ≤ k → a + sum (map value (eachFrom f k (n - k))) ≡ t → a ≡ t
+  unfolding sum
+  each-sum-end h e = let l : a + 0 ≡ t = rw (each-none f n k h) at e in omega arith
