@@ -91,6 +91,13 @@ module _ (recordCount count : ℕ) (r : Room) (placed : Placed recordCount count
     | no h ↦ state-recorded s i (omega arith) (rw (state-at r count s (omega arith)) at m)
   ]
 
+-- a part of a run, and a run whose places are known by other names
+pub run-behind : (recordCount : ℕ) (r : Room) (first k end : ℕ) → PlacedRun recordCount r first end → first ≤ k → k < end → PlacedRun recordCount r k end
+run-behind recordCount r first k end run h g = record { ordered = omega arith; bounded = run .bounded; recorded = λ j f l. run .recorded j (omega arith) l }
+
+pub run-read : (recordCount : ℕ) (r : Room) (s first end : ℕ) → PlacedAt recordCount r s → first ≡ firstOf r s → end ≡ firstOf r (s + 1) → PlacedRun recordCount r first end
+run-read recordCount r s first end placed p q = rw (p, q) placed
+
 -- an item of a run lies within the bytes of the grammar
 pub item-fits : (bytes : List ℕ) (r : Room) (first end k i : ℕ) → PlacedRun (length (records bytes)) r first end → first ≤ k → k < end → i ≡ entryIn r k .item → 8 * i + 8 ≤ length bytes
 item-fits bytes r first end k i run h g is = omega (arith, is, run .recorded k h g, length-records bytes)
