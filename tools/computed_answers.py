@@ -1,10 +1,10 @@
 #!/usr/bin/env python3
 """Holds the definitions of `rules` to an oracle's answers, by computation.
 
-    computed_answers.py GEN ORACLE CLONE SEED COUNT MOST
+    computed_answers.py GEN ORACLE CLONE SEED COUNT MOST [ANSWER]
 
 GEN SEED COUNT writes jobs (mode, length, coded grammar), ORACLE answers each by a line of JSON: see the oracle's own text. The cases of
-grammars with at most MOST records become theorems `said mode grammar ≡ answer` and `table mode grammar ≡ records`, proved by `refl`, in a
+grammars with at most MOST records, and answers that begin with ANSWER where it is given, become theorems `said mode grammar ≡ answer` and `table mode grammar ≡ records`, proved by `refl`, in a
 crate `computed` of CLONE, a scratch copy of this repository; `rt check computed` there computes them. What was made is counted on
 standard output, by mode and by answer.
 """
@@ -45,7 +45,7 @@ def theorems(k, mode, grammar, answer):
         yield f"table{k} : table {mode} {bytes_} ≡ {records}\nunfolding table\ntable{k} = refl\n"
 
 
-def main(gen, oracle, clone, seed, count, most):
+def main(gen, oracle, clone, seed, count, most, wanted=""):
     jobs = subprocess.run([gen, seed, count], stdout=subprocess.PIPE, check=True).stdout
     answers = subprocess.run([oracle], input=jobs, stdout=subprocess.PIPE, check=True).stdout.decode().splitlines()
     crate = pathlib.Path(clone) / "crates" / "computed"
@@ -57,7 +57,7 @@ def main(gen, oracle, clone, seed, count, most):
         mode, (length,) = jobs[at], struct.unpack_from("<I", jobs, at + 1)
         grammar, at = jobs[at + 5:at + 5 + length], at + 5 + length
         answer = json.loads(line)
-        if length > 8 * int(most):
+        if length > 8 * int(most) or not answer["doc"].startswith(wanted):
             continue
         counts[f"mode {mode} " + " ".join(answer["doc"].split()[:2] if answer["doc"].startswith("refused") else ["built"])] += 1
         counts["with clones"] += answer.get("clones", 0) > 0
@@ -74,6 +74,6 @@ def main(gen, oracle, clone, seed, count, most):
 
 
 if __name__ == "__main__":
-    if len(sys.argv) != 7:
+    if len(sys.argv) not in (7, 8):
         sys.exit(__doc__)
     main(*sys.argv[1:])
