@@ -133,9 +133,9 @@ module _ (g : Grammar) (r : Room) where
       omega arith
 
   -- ---- of all states
-  pub count-start : (count : ℕ) → 0 + sum (map (conflictsAt g) (eachFrom (stateIn r) 0 (count - 0))) ≡ conflictCount g (statesIn r count)
+  pub all-start : (count : ℕ) → 0 + sum (map (conflictsAt g) (eachFrom (stateIn r) 0 (count - 0))) ≡ conflictCount g (statesIn r count)
   unfolding conflictCount statesIn
-  count-start count =
+  all-start count =
       let l : sum (map (conflictsAt g) (eachFrom (stateIn r) 0 (count - 0))) ≡ conflictCount g (statesIn r count) = rw sub-zero in
       omega arith
 

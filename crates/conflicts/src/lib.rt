@@ -9,7 +9,7 @@ ghost use Rattle.rules.specs.Grammar.{terminalCount};
 ghost use Rattle.rules.specs.States.{conflictsAt, conflictCount};
 ghost use Rattle.grammar.specs.Asked.{Faultless};
 ghost use Rattle.room.specs.Areas.{view};
-ghost use Rattle.room.specs.Bounds.{LongEnough, IsState, FewTerminals};
+ghost use Rattle.room.specs.Bounds.{LongEnough, IsState, FewTerminals, maxEntries};
 ghost use Rattle.lookahead.specs.Sets.{IsToken};
 ghost use Rattle.states.specs.StatesIn.{stateIn, statesIn, PlacedAt, Placed};
 ghost use Rattle.conflicts.specs.Counts.{Readable, isShiftedIn, isHeldIn, heldShiftsIn, meetsIn, meetingIn, conflictsIn, maxOfEntry, maxOfState};
@@ -53,7 +53,7 @@ fn count_held(g: &[u8], t: usize, k: usize, first: usize, end: usize, work: &[u6
 // How many of the shifted terminals are in the set of the entry at place k.
 fn held_shifts(g: &[u8], n: usize, k: usize, first: usize, end: usize, work: &[u64]) -> usize
     requires { ⌜ Readable (now g) (now work) first end × (k < end) × FewTerminals n × (n ≡ terminalCount (records (now g))) ⌝ }
-    ensures { λ r. ⌜ (r ≡ heldShiftsIn (records (now (g .entry))) (view (now (work .entry))) first end k) × (r ≤ 62) ⌝ }
+    ensures { λ r. ⌜ (r ≡ heldShiftsIn (records (now (g .entry))) (view (now (work .entry))) first end k) × (r ≤ n) ⌝ }
 {
     let mut count: usize = 0;
     for t in 0..n {
@@ -79,7 +79,7 @@ fn count_meeting(g: &[u8], k: usize, j: usize, end: usize, work: &[u64]) -> usiz
 // How many of the reductions behind the entry at place k have sets that meet its own.
 fn meeting(g: &[u8], k: usize, end: usize, work: &[u64]) -> usize
     requires { ⌜ Readable (now g) (now work) k end × (k < end) ⌝ }
-    ensures { λ r. ⌜ (r ≡ meetingIn (records (now (g .entry))) (view (now (work .entry))) k end) × (r ≤ 2048) ⌝ }
+    ensures { λ r. ⌜ (r ≡ meetingIn (records (now (g .entry))) (view (now (work .entry))) k end) × (r ≤ maxEntries) ⌝ }
 {
     let behind = k + 1;
     let mut count: usize = 0;

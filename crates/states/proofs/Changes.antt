@@ -20,7 +20,7 @@ use Rattle.lookahead.proofs.Slots.{put-there, put-elsewhere}
 use Rattle.states.specs.StatesIn.{entryIn, firstOf, stateIn, statesIn, PlaceOf, Placed, putNext}
 use Rattle.states.proofs.Entries.{item-small}
 use Rattle.states.proofs.States.{first-same, entry-same, state-same}
-use Rattle.states.proofs.Places.{place-within, end-within, one-state, placed-same}
+use Rattle.states.proofs.Places.{place-in-area, end-within, one-state, placed-same}
 
 -- ---- one entry differs
 module _ (recordCount count : ℕ) (v q : Room) (placed : Placed recordCount count v) (firsts : q .firstEntries ≡ v .firstEntries)
@@ -64,7 +64,7 @@ module _ (recordCount count k : ℕ) (next : StateIndex) (v q : Room) (placed : 
   pub next-states : (s : ℕ) → s < count → PlaceOf v s k
       → statesIn q count ≡ set (statesIn v count) s (set (stateIn v s) (k - firstOf v s) (record { item = entryIn v k .item; next = next .0; set = entryIn v k .set }))
   next-states s h place =
-      states-set recordCount count v q placed firsts-stay s k _ h place (next-there k next v q sized small put (place-within recordCount count v placed s k h place)) (λ j. stored-elsewhere v q k _ j put)
+      states-set recordCount count v q placed firsts-stay s k _ h place (next-there k next v q sized small put (place-in-area recordCount count v placed s k h place)) (λ j. stored-elsewhere v q k _ j put)
 
   pub next-placed : Placed recordCount count q
   next-placed = placed-same recordCount count v q placed firsts-stay (λ j h. same j (omega (arith, end-within recordCount count v placed)) (ℕ-discrete j k))
@@ -88,7 +88,7 @@ module _ (v q : Room) (k : ℕ) (tokens : TokenSet) (put : q ≡ putSet (entrySl
   pub set-states : (recordCount count s : ℕ) → Placed recordCount count v → Lengths v → s < count → PlaceOf v s k
       → statesIn q count ≡ set (statesIn v count) s (set (stateIn v s) (k - firstOf v s) (record { item = entryIn v k .item; next = entryIn v k .next; set = tokens }))
   set-states recordCount count s placed sized h place =
-      states-set recordCount count v q placed (ap (λ (r : Room). r .firstEntries) put) s k _ h place (slot-there sized (place-within recordCount count v placed s k h place)) slot-elsewhere
+      states-set recordCount count v q placed (ap (λ (r : Room). r .firstEntries) put) s k _ h place (slot-there sized (place-in-area recordCount count v placed s k h place)) slot-elsewhere
 
 -- a set in any slot moves no entry
 pub set-placed : (recordCount count : ℕ) (v q : Room) (slot : ℕ) (tokens : TokenSet) → Placed recordCount count v → q ≡ putSet slot tokens v → Placed recordCount count q

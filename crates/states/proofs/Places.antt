@@ -26,8 +26,8 @@ module _ (recordCount count : ℕ) (r : Room) (placed : Placed recordCount count
   pub placed-at : (s : ℕ) → s < count → PlacedAt recordCount r s
   placed-at s h = placed .each s h
 
-  pub place-within : (s k : ℕ) → s < count → PlaceOf r s k → IsEntry k
-  place-within s k h p = omega (arith, placed .each s h .bounded)
+  pub place-in-area : (s k : ℕ) → s < count → PlaceOf r s k → IsEntry k
+  place-in-area s k h p = omega (arith, placed .each s h .bounded)
 
   -- ---- the places ascend with the states
   ascending : (a n : ℕ) → a + n ≤ count → firstOf r a ≤ firstOf r (a + n)

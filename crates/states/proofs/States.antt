@@ -37,9 +37,9 @@ module _ (r : Room) where
   unfolding stateIn
   entry-count s = each-length (entryIn r) (firstOf r s) (firstOf r (s + 1) - firstOf r s)
 
-  pub entry-at : (s k : ℕ) (d : Entry) → PlaceOf r s k → getD (stateIn r s) (k - firstOf r s) d ≡ entryIn r k
+  pub entry-of-state : (s k : ℕ) (d : Entry) → PlaceOf r s k → getD (stateIn r s) (k - firstOf r s) d ≡ entryIn r k
   unfolding stateIn
-  entry-at s k d p =
+  entry-of-state s k d p =
       let e : firstOf r s + (k - firstOf r s) ≡ k = omega arith in
       each-at (entryIn r) (firstOf r s) (firstOf r (s + 1) - firstOf r s) (k - firstOf r s) d (omega arith) ∙ ap (entryIn r) e
 

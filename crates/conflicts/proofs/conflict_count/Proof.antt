@@ -12,7 +12,7 @@ use Rattle.room.specs.Areas.{view}
 use Rattle.states.specs.StatesIn.{stateIn, statesIn}
 use Rattle.states.proofs.Places.{placed-at}
 use Rattle.conflicts.specs.Counts.{maxOfState}
-use Rattle.conflicts.proofs.Turns.{count-start}
+use Rattle.conflicts.proofs.Turns.{all-start}
 use Rattle.conflicts.proofs.conflict_count.Statement.{statement}
 use Rattle.conflicts.proofs.conflict_count.Tie as tie
 
@@ -30,7 +30,7 @@ conflict-count-spec =
     (tie.spec
     Inv-loop
     μ-loop
-    (λ c. search (needs, count-start))
+    (λ c. search (needs, all-start))
     (λ c κs. search (needs, placed-at))
     (λ c. search needs)
     (λ c. search needs)
