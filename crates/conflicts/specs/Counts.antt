@@ -1,7 +1,6 @@
 -- The conflict count in the order in which the code counts: entry by entry, each reduction against the terminals that its state shifts and
 -- against the reductions behind it. That this is the count of document 01 is proved in proofs/Counts.antt.
 use Prim.Native.Nat.{ℕ, _+_}
-use mathlib.Core.Path.{_≡_}
 use mathlib.Core.Bool.{Bool, _&&_, not}
 use mathlib.Core.List.{List, [], _∷_}
 use lib.ListN.{length}
