@@ -1,12 +1,12 @@
 #!/usr/bin/env python3
 """Holds the definitions of `rules` to an oracle's answers, by computation.
 
-    computed_answers.py GEN ORACLE CLONE SEED COUNT MOST [ANSWER]
+    computed_answers.py GEN ORACLE CLONE SEED COUNT MOST [ANSWER [CLONES]]
 
 GEN SEED COUNT writes jobs (mode, length, coded grammar), ORACLE answers each by a line of JSON: see the oracle's own text. The cases of
-grammars with at most MOST records, and answers that begin with ANSWER where it is given, become theorems `said mode grammar ≡ answer` and `table mode grammar ≡ records`, proved by `refl`, in a
-crate `computed` of CLONE, a scratch copy of this repository; `rt check computed` there computes them. What was made is counted on
-standard output, by mode and by answer.
+grammars with at most MOST records, whose answers begin with ANSWER and have at least CLONES clones where these are given, become
+theorems `said mode grammar ≡ answer` and `table mode grammar ≡ records`, proved by `refl`, in a crate `computed` of CLONE, a scratch copy
+of this repository; `rt check computed` there computes them. What was made is counted on standard output, by mode and by answer.
 """
 import collections
 import json
@@ -45,7 +45,7 @@ def theorems(k, mode, grammar, answer):
         yield f"table{k} : table {mode} {bytes_} ≡ {records}\nunfolding table\ntable{k} = refl\n"
 
 
-def main(gen, oracle, clone, seed, count, most, wanted=""):
+def main(gen, oracle, clone, seed, count, most, wanted="", clones="0"):
     jobs = subprocess.run([gen, seed, count], stdout=subprocess.PIPE, check=True).stdout
     answers = subprocess.run([oracle], input=jobs, stdout=subprocess.PIPE, check=True).stdout.decode().splitlines()
     crate = pathlib.Path(clone) / "crates" / "computed"
@@ -57,7 +57,7 @@ def main(gen, oracle, clone, seed, count, most, wanted=""):
         mode, (length,) = jobs[at], struct.unpack_from("<I", jobs, at + 1)
         grammar, at = jobs[at + 5:at + 5 + length], at + 5 + length
         answer = json.loads(line)
-        if length > 8 * int(most) or not answer["doc"].startswith(wanted):
+        if length > 8 * int(most) or not answer["doc"].startswith(wanted) or answer.get("clones", 0) < int(clones):
             continue
         counts[f"mode {mode} " + " ".join(answer["doc"].split()[:2] if answer["doc"].startswith("refused") else ["built"])] += 1
         counts["with clones"] += answer.get("clones", 0) > 0
@@ -74,6 +74,6 @@ def main(gen, oracle, clone, seed, count, most, wanted=""):
 
 
 if __name__ == "__main__":
-    if len(sys.argv) not in (7, 8):
+    if not 7 <= len(sys.argv) <= 9:
         sys.exit(__doc__)
     main(*sys.argv[1:])
