@@ -1,16 +1,15 @@
 -- A visit of lane mode gives production 0's completed entry no token but Eof, in the state visited and its clones; and every state is
 -- visited.
-use Prim.Native.Nat.{ℕ, zero, suc, _+_, _<_, _≤_}
+use Prim.Native.Nat.{ℕ, suc, _+_, _<_, _≤_}
 use mathlib.Core.Path.{_≡_, refl, sym}
 use mathlib.Core.Logic.{inl, inr, ⊎-elim}
-use mathlib.Core.Bool.{Bool, true, false, true≢false}
+use mathlib.Core.Bool.{true, true≢false}
 use mathlib.Core.List.{List, [], _∷_}
 use native.Mathlib.Omega.{arith}
 use native.Mathlib.Decide.{ℕ-discrete, decLt}
 use lib.ListN.{length, getD, set, List·getD-eq-default}
 use lib.Seq.{getD-set-same}
 use lib.Dec.{ltb}
-use borrow.Author.Tests.{ltb-true, ltb-false}
 use Rattle.base.specs.Among.{Among}
 use Rattle.base.specs.Lists.{foldOver, isEmpty}
 use Rattle.base.proofs.Lists.{among-none, among-at, after-set, fold-keeps}
@@ -24,6 +23,7 @@ use Rattle.rules.specs.Merge.{Merge, headOf, groupColumns, clonesOf, walk, take
 use Rattle.knuth.specs.Coded.{Checked}
 use Rattle.walks.proofs.Outcomes.{Holds, holds-pick, holds-also, holds-both}
 use Rattle.traces.specs.Recorded.{Recorded, AllRecorded}
+use Rattle.walks.proofs.Resolve.{visits-keep}
 use Rattle.walks.proofs.Recorded.{resolve-recorded}
 use Rattle.fuel.proofs.Visits.{Few, resolve-few}
 use Rattle.demands.proofs.MergeLinked.{clone-of}
@@ -167,32 +167,25 @@ module _ (g : Grammar) where
         (holds-both (Few l g) (λ these. AllRecorded g these × VisitedBefore g (suc s) these) o (resolve-few l g (firstSets g) s states b (h .few))
         (holds-both (AllRecorded g) (VisitedBefore g (suc s)) o (resolve-recorded g l (firstSets g) s states (h .recorded)) on-eof))
 
-    all-visited : (fuel s : ℕ) (states : List State) → l .states < s + fuel → Ready s states → Holds AllOnEof (resolveFrom l g (firstSets g) fuel s states)
-    unfolding resolveFrom
-    all-visited zero s states enough h = all-before s states (omega (arith, h .few)) (h .before)
-    all-visited (suc fuel) s states enough h = by-test (ltb s (length states)) refl (all-visited fuel (suc s))
-      where
-        Later : Type 0
-        Later = (states : List State) → l .states < suc s + fuel → Ready (suc s) states → Holds AllOnEof (resolveFrom l g (firstSets g) fuel (suc s) states)
+    -- with a turn for each state that the limit allows, and one more
+    abbrev InTime : ℕ → ℕ → List State → Type 0
+    InTime fuel s states = (l .states < s + fuel) × Ready s states
 
-        by-next : (o : Outcome (List State)) → Holds (Ready (suc s)) o → Later
-            → Holds AllOnEof (elim o [ done states′ ↦ resolveFrom l g (firstSets g) fuel (suc s) states′ | refused why ↦ refused why ])
-        by-next (done states′) k later = later states′ (omega arith) k
-        by-next (refused why) k later = tt
+    visit-in-time : (fuel s : ℕ) (states : List State) → s < length states → InTime (suc fuel) s states → Holds (InTime fuel (suc s)) (resolve l g (firstSets g) s states)
+    visit-in-time fuel s states below (enough, ready) =
+        holds-also (Ready (suc s)) (InTime fuel (suc s)) (λ states′ h. (omega arith, h)) (resolve l g (firstSets g) s states) (visit-keeps s states below ready)
 
-        by-test : (b : Bool) → ltb s (length states) ≡ b → Later
-            → Holds AllOnEof (elim b [
-              | true ↦ elim (resolve l g (firstSets g) s states) [ done states′ ↦ resolveFrom l g (firstSets g) fuel (suc s) states′ | refused why ↦ refused why ]
-              | false ↦ done states
-            ])
-        by-test true e later = by-next (resolve l g (firstSets g) s states) (visit-keeps s states (ltb-true s (length states) e) h) later
-        by-test false e later = all-before s states (ltb-false s (length states) e) (h .before)
+    all-visited : (fuel s : ℕ) (states : List State) → InTime fuel s states → Holds AllOnEof (resolveFrom l g (firstSets g) fuel s states)
+    all-visited =
+        visits-keep l g (firstSets g) InTime AllOnEof visit-in-time
+        (λ fuel s states end (enough, ready). all-before s states end (ready .before))
+        (λ s states (enough, ready). all-before s states (omega (arith, ready .few)) (ready .before))
 
     -- from states whose sets are all `all`
     pub resolved-on-eof : (o : Outcome (List State)) → Holds (Few l g) o → Holds (AllRecorded g) o
         → Holds (λ states. (t : ℕ) → Untouched g (getD states t [])) o → Holds AllOnEof (resolveAll l g o)
     unfolding resolveAll
     resolved-on-eof (done states) few recorded untouched =
-        all-visited (l .states + 1) 0 states (omega arith)
-        (record { few = few; recorded = recorded; before = λ t. (inl (untouched t), λ b. absurd (omega arith)) })
+        all-visited (l .states + 1) 0 states
+        (omega arith, record { few = few; recorded = recorded; before = λ t. (inl (untouched t), λ b. absurd (omega arith)) })
     resolved-on-eof (refused why) few recorded untouched = tt
