@@ -3,15 +3,16 @@
 use Prim.Native.Nat.{ℕ, zero, suc, _+_, _-_, _<_, _≤_}
 use mathlib.Core.Path.{_≡_, refl, sym, ap, ap₂, _∙_}
 use mathlib.Core.Logic.{⊎-elim}
-use mathlib.Core.Bool.{Bool, true, false}
+use mathlib.Core.Bool.{Bool, true, false, not}
 use mathlib.Core.List.{List, [], _∷_, _++_, map}
 use native.Mathlib.Omega.{arith}
 use native.Mathlib.Numerals.{add-one}
 use lib.ListN.{length}
+use borrow.Author.Tests.{not-true, not-false}
 use Rattle.base.specs.Pick.{pick}
 use Rattle.base.specs.Among.{Among}
 use Rattle.base.specs.Each.{eachFrom}
-use Rattle.base.specs.Lists.{sum, keep, someOf}
+use Rattle.base.specs.Lists.{sum, keep, someOf, eachOf, foldOver}
 use Rattle.base.proofs.Lists.{among-none, among-cons}
 
 module _ {A : Type 0} where
@@ -98,3 +99,34 @@ module _ {A : Type 0} (value : A → ℕ) (f : ℕ → A) (n k a t : ℕ) where
   pub each-sum-end : n ≤ k → a + sum (map value (eachFrom f k (n - k))) ≡ t → a ≡ t
   unfolding sum
   each-sum-end h e = let l : a + 0 ≡ t = rw (each-none f n k h) at e in omega arith
+
+-- every element passes a test
+module _ {A : Type 0} (test : A → Bool) (f : ℕ → A) (n k : ℕ) (v : Bool) where
+  pub each-all-turn : (b : Bool) → k < n → eachOf test (eachFrom f k (n - k)) ≡ v → b ≡ test (f k) → not b ≡ false → eachOf test (eachFrom f (k + 1) (n - (k + 1))) ≡ v
+  unfolding eachOf
+  each-all-turn b h e p z = let q : test (f k) ≡ true = sym p ∙ not-false b z in rw q at (rw (each-more f n k h) at e)
+
+  pub each-all-fails : (b : Bool) → k < n → eachOf test (eachFrom f k (n - k)) ≡ v → b ≡ test (f k) → not b ≡ true → false ≡ v
+  unfolding eachOf
+  each-all-fails b h e p z = let q : test (f k) ≡ false = sym p ∙ not-true b z in rw q at (rw (each-more f n k h) at e)
+
+  pub each-all-end : n ≤ k → eachOf test (eachFrom f k (n - k)) ≡ v → true ≡ v
+  unfolding eachOf
+  each-all-end h e = rw (each-none f n k h) at e
+
+-- a fold over a part of each element, where it passes a test
+module _ {A B C : Type 0} (part : A → C) (test : C → Bool) (step : C → B → B) (f : ℕ → A) (n k : ℕ) (a t : B) where
+  abbrev left : ℕ → List C
+  left j = keep test (map part (eachFrom f j (n - j)))
+
+  pub each-fold-turn : (b : B) → k < n → foldOver step (left k) a ≡ t → b ≡ pick (test (part (f k))) (step (part (f k)) a) a → foldOver step (left (k + 1)) b ≡ t
+  unfolding foldOver keep
+  each-fold-turn b h e p = go (test (part (f k))) p (rw (each-more f n k h) at e)
+    where
+      go : (x : Bool) → b ≡ pick x (step (part (f k)) a) a → foldOver step (pick x (part (f k) ∷ left (k + 1)) (left (k + 1))) a ≡ t → foldOver step (left (k + 1)) b ≡ t
+      go true p e = rw p e
+      go false p e = rw p e
+
+  pub each-fold-end : n ≤ k → foldOver step (left k) a ≡ t → a ≡ t
+  unfolding foldOver keep
+  each-fold-end h e = rw (each-none f n k h) at e

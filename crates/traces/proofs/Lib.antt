@@ -1,3 +1,4 @@
+pub mod Left
 pub mod Rows
 pub mod Trace
 pub mod Whole

@@ -33,7 +33,7 @@ module _ (g : Grammar) (sets : Sets) (states : List State) (c : ℕ) where
   seen trace = sum (map (size (length g)) (trace .visited))
 
   -- at least n pairs were visited
-  abbrev SeenAtLeast : ℕ → Trace → Type 0
+  abbrev pub SeenAtLeast : ℕ → Trace → Type 0
   SeenAtLeast n trace = (length (trace .visited) ≡ length states) × (n ≤ seen trace)
 
   -- no more pairs are left than there is fuel
@@ -41,7 +41,7 @@ module _ (g : Grammar) (sets : Sets) (states : List State) (c : ℕ) where
   Left fuel = SeenAtLeast (length states * length g - fuel)
 
   -- ---- a visit
-  visit-seen : (s i n : ℕ) (trace : Trace) → s < length states → SeenAtLeast n trace → SeenAtLeast n (visit s i trace)
+  pub visit-seen : (s i n : ℕ) (trace : Trace) → s < length states → SeenAtLeast n trace → SeenAtLeast n (visit s i trace)
   unfolding visit
   visit-seen s i n trace b (l, h) =
       let old : ℕ = getD (trace .visited) s 0 in (
@@ -49,7 +49,7 @@ module _ (g : Grammar) (sets : Sets) (states : List State) (c : ℕ) where
         omega (arith, sum-set (size (length g)) (trace .visited) s (join old (single i)) 0 (rw l b), size-within old (join old (single i)) (within-join old (single i)) (length g)),
       )
 
-  visit-counts : (s i : ℕ) (trace : Trace) → s < length states → i < length g → length (trace .visited) ≡ length states
+  pub visit-counts : (s i : ℕ) (trace : Trace) → s < length states → i < length g → length (trace .visited) ≡ length states
       → wasVisited s i trace ≡ false → seen trace < seen (visit s i trace)
   unfolding visit wasVisited
   visit-counts s i trace b r l e =
@@ -60,7 +60,7 @@ module _ (g : Grammar) (sets : Sets) (states : List State) (c : ℕ) where
         size-strict old (join old (single i)) (within-join old (single i)) (length g) i r (has-join old (single i) i .1 (inr (has-single i i .1 refl))) (has-false old i .0 e),
       )
 
-  seen-bound : (trace : Trace) → length (trace .visited) ≡ length states → seen trace ≤ length states * length g
+  pub seen-bound : (trace : Trace) → length (trace .visited) ≡ length states → seen trace ≤ length states * length g
   seen-bound trace l = omega (arith, sum-le (size (length g)) (length g) (size-le (length g)) (trace .visited), ap (λ (k : ℕ). k * length g) l)
 
   predecessor-below : (s p : ℕ) (i : ℕ) → Among p (predecessors g states s (symbolOf (at g i))) → p < length states
@@ -153,7 +153,7 @@ module _ (g : Grammar) (sets : Sets) (states : List State) (c : ℕ) where
       closing = λ s i trace q h. closed-keeps fuel (both-keep fuel) s i trace (wasVisited s i trace) q h;
     }
 
-  seen-kept : (n : ℕ) → Kept (SeenAtLeast n)
+  pub seen-kept : (n : ℕ) → Kept (SeenAtLeast n)
   seen-kept n = record { visiting = λ s i trace b h. visit-seen s i n trace b h; linking = λ p s trace h. h; entering = λ s tokens trace h. h }
 
   module _ (recorded : AllRecorded g states) where

@@ -2,13 +2,19 @@
 -- again (proofs/Whole.antt): so a function that calls itself without fuel is compared with it step by step.
 use Prim.Native.Nat.{ℕ, suc, _-_, _*_}
 use mathlib.Core.Bool.{true, false}
-use mathlib.Core.List.{List}
+use mathlib.Core.List.{List, map}
 use lib.ListN.{length, replicate}
+use Rattle.base.specs.Lists.{sum}
 use Rattle.rules.specs.Records.{Grammar}
 use Rattle.rules.specs.Grammar.{atStart}
 use Rattle.rules.specs.First.{Sets}
 use Rattle.rules.specs.States.{State}
 use Rattle.rules.specs.Lanes.{LaneTable, Trace, onTable, addSuccessor, enter, tokensPast, emptyPast, unShift, unClose}
+use Rattle.sets.specs.Size.{size}
+
+-- how many pairs of one of the states and an item are not visited yet
+unfoldable pub pairsLeft : Grammar → ℕ → Trace → ℕ
+pairsLeft g count trace = count * length g - sum (map (size (length g)) (trace .visited))
 
 module _ (g : Grammar) (sets : Sets) (states : List State) (c : ℕ) where
   -- the dot of item i is past 0; it is 0

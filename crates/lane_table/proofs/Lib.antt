@@ -1,0 +1,9 @@
+pub mod Cells
+pub mod CloseLoop
+pub mod Frames
+pub mod Going
+pub mod Items
+pub mod Leads
+pub mod Pairs
+pub mod Rows
+pub mod ShiftLoop
