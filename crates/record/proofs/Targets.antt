@@ -1,18 +1,16 @@
 -- What the search finds is what the definition of a table's lookups says.
 use Prim.Native.Nat.{ℕ, zero, suc, _<_, _≤_}
-use mathlib.Core.Path.{_≡_, refl, sym, _∙_}
-use mathlib.Core.Bool.{Bool, true, false}
+use mathlib.Core.Path.{_≡_, refl, sym}
+use mathlib.Core.Bool.{true, false}
 use mathlib.Core.List.{List, [], _∷_}
 use mathlib.Core.Option.{none, some}
 use native.Mathlib.Omega.{arith}
 use lib.ListN.{length}
-use Rattle.base.specs.Lists.{someOf}
 use Rattle.base.proofs.Found.{before-first, at-first}
 use Rattle.rules.specs.Table.{TableRecord, isFor, targetOf, actBy, tableIn}
 use Rattle.rules.specs.Drive.{tableAt}
 use Rattle.record.specs.declared.lookup.Found.{Found}
 use Rattle.record.specs.declared.lookup.Found.the-variants as found
-use Rattle.record.specs.declared.lookup.Act.{Act}
 use Rattle.record.specs.declared.lookup.Act.the-variants.{Shift, Reduce, Nothing}
 use Rattle.record.specs.Search.{isAt, firstFor}
 use Rattle.record.specs.Lookup.{foundIn, actIn}
