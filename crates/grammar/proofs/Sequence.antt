@@ -17,7 +17,7 @@ use Rattle.rules.specs.Records.{Record, Grammar, at, isLeftSide, comesBehind, i
 use Rattle.rules.specs.Grammar.{leftSideOf}
 
 -- the number at which no earlier one passes, and which passes if it is one of the n, is the first that passes
-first-is : (test : ℕ → Bool) (n k : ℕ) → k ≤ n → (k < n → test k ≡ true)
+pub first-is : (test : ℕ → Bool) (n k : ℕ) → k ≤ n → (k < n → test k ≡ true)
     → ((j : ℕ) → j < k → test j ≡ true → ⊥) → firstFrom test n 0 ≡ k
 first-is test n k l passes none = omega (arith, not-later, not-earlier)
   where

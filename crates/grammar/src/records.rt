@@ -20,7 +20,7 @@ pub fn record_count(g: &[u8]) -> usize
 }
 
 // The little-endian number of two bytes, the first of which is byte i.
-fn number_at(g: &[u8], i: usize) -> usize
+pub fn number_at(g: &[u8], i: usize) -> usize
     requires { ⌜ i + 2 ≤ length (now g) ⌝ }
     ensures { λ r. ⌜ (r ≡ numberAt (now (g .entry)) i) × (r ≤ maxNumber) ⌝ }
 {

@@ -1,0 +1,4 @@
+pub mod Lowest
+pub mod Passing
+pub mod Ways
+pub mod WellFormed
