@@ -1,0 +1,58 @@
+-- The closure of the state at hand in the room: the set of nonterminal a lies in its closure slot.
+use Prim.Native.Nat.{ℕ, _+_, _≤_, _<_}
+use mathlib.Core.Path.{_≡_}
+use mathlib.Core.Bool.{Bool, true, false, not}
+use mathlib.Core.List.{List, []}
+use lib.ListN.{length}
+use Rattle.rules.specs.Limits.{limits}
+use Rattle.rules.specs.Records.{Grammar, at, records}
+use Rattle.rules.specs.Grammar.{nonterminalCount, firstFault}
+use Rattle.rules.specs.First.{Sets, setOf, first1}
+use Rattle.rules.specs.States.{Follow, closeItem, itemClosed}
+use Rattle.room.specs.Areas.{Room, withSets, view}
+use Rattle.room.specs.Bounds.{LongEnough, FewTerminals}
+use Rattle.room.specs.Slots.{closureSlot, handSlot}
+use Rattle.lookahead.specs.Sets.{setAt}
+use Rattle.first.specs.Firsts.{loads, firstsIn}
+
+-- the sets of the grammar's nonterminals
+abbrev pub closuresIn : Grammar → Room → Sets
+closuresIn g r = loads 64 (nonterminalCount g) (r .sets)
+
+-- ---- what the items of a nonterminal get from an entry: in canonical states by `first1`, in LR(0) states what the entry has
+unfoldable pub followOf : Bool → ℕ → Sets → Follow
+unfolding first1
+followOf true n firsts = first1 n firsts
+followOf false n firsts = λ xs s. s
+
+-- with FIRST as it lies in the room
+abbrev pub followIn : Grammar → Bool → ℕ → Room → Follow
+followIn g canonical n r = followOf canonical n (firstsIn g r)
+
+-- ---- the left-side record i, with the set of its nonterminal
+unfoldable pub closeLeftSide : Grammar → Follow → ℕ → Sets → Sets
+unfolding closeItem setOf at
+closeLeftSide g follow i sets = closeItem g follow i (setOf sets (at g i .symbol)) sets
+
+unfoldable pub leftSideClosed : Grammar → Follow → Sets → ℕ → Bool
+unfolding itemClosed setOf at
+leftSideClosed g follow sets i = itemClosed g follow sets i (setOf sets (at g i .symbol))
+
+-- ---- what closing asks of the grammar's bytes, of the number of its terminals and of the room
+pub record Closable (bytes : List ℕ) (n : ℕ) (work : List ℕ) : Type 0 where
+  pub clean : firstFault limits (records bytes) ≡ length (records bytes)
+  pub few : FewTerminals n
+  pub long : LongEnough work
+
+-- ---- what it leaves: q is v but for the sets of the closure and the set at hand
+pub record OnlyClosures (g : Grammar) (v q : Room) : Type 0 where
+  pub others : withSets [] q ≡ withSets [] v
+  pub words : length (q .sets) ≡ length (v .sets)
+  pub firsts : (slot : ℕ) → slot < closureSlot 0 → setAt q slot ≡ setAt v slot
+  pub behind : (slot : ℕ) → closureSlot (nonterminalCount g) ≤ slot → (slot ≡ handSlot → ⊥) → setAt q slot ≡ setAt v slot
+
+-- item i handed on the set of the slot `from`
+pub record ItemCloses (bytes : List ℕ) (canonical : Bool) (n i from : ℕ) (work after : List ℕ) (lacked : Bool) : Type 0 where
+  pub found : closuresIn (records bytes) (view after) ≡ closeItem (records bytes) (followIn (records bytes) canonical n (view work)) i (setAt (view work) from) (closuresIn (records bytes) (view work))
+  pub only : OnlyClosures (records bytes) (view work) (view after)
+  pub said : lacked ≡ not (itemClosed (records bytes) (followIn (records bytes) canonical n (view work)) (closuresIn (records bytes) (view work)) i (setAt (view work) from))
