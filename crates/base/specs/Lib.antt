@@ -1,4 +1,5 @@
 pub mod Among
+pub mod Each
 pub mod Fill
 pub mod Lists
 pub mod Loops
