@@ -2,7 +2,7 @@
 use Prim.Native.Nat.{ℕ, _+_, _*_, _≤_, _<_}
 use mathlib.Core.Path.{_≡_, refl, sym, ap, _∙_}
 use mathlib.Core.Bool.{Bool, true, false, not, _&&_, _||_}
-use mathlib.Core.List.{List, []}
+use mathlib.Core.List.{List}
 use native.Mathlib.Omega.{arith}
 use lib.ListN.{length, set}
 use lib.Dec.{eqb}
@@ -15,14 +15,15 @@ use Rattle.rules.specs.Grammar.{atEnd, symbolsBehind, nonterminalCount}
 use Rattle.rules.specs.First.{Sets, setOf, joinAt, first1}
 use Rattle.rules.specs.States.{Follow, closes, handsOn, closeItem, itemClosed}
 use Rattle.rules.proofs.Laws.{length-records, not-at-end-within, nonterminal-counted-at}
-use Rattle.room.specs.Areas.{Room, view, withSets}
+use Rattle.room.specs.Areas.{Room, view}
 use Rattle.room.proofs.Lengths.{view-lengths}
 use Rattle.lookahead.specs.Sets.{loadSet, setAt, putSet}
-use Rattle.lookahead.proofs.Slots.{put-there, put-elsewhere, length-stored-set}
+use Rattle.lookahead.proofs.Slots.{put-there, put-elsewhere}
 use Rattle.grammar.proofs.Coded.{nonterminal-count-below, symbol-read}
 use Rattle.grammar.proofs.Laws.{behind-dot}
-use Rattle.first.proofs.Loads.{loads-at, loads-before, loads-stored}
-use Rattle.closures.specs.Closures.{closuresIn, followOf, followIn, Closable, OnlyClosures, ItemCloses}
+use Rattle.first.proofs.Loads.{loads-at, loads-stored}
+use Rattle.closures.specs.Closures.{closuresIn, followOf, followIn, Closable, ItemCloses}
+use Rattle.closures.proofs.Frames.{only-none, only-both, words-put, only-own, only-hand, closures-hand}
 
 -- ---- whether an item closes
 module _ (g : Grammar) (i : ℕ) (s : TokenSet) (b : Bool) (empty : b ≡ eqb s 0) where
@@ -71,52 +72,17 @@ module _ (g : Grammar) (canonical : Bool) (n i hand s : ℕ) (v q : Room) (slot 
   unfolding handsOn followOf
   handed-copy e put = rw (e, ← slot) put
 
--- ---- frames
-pub only-none : (g : Grammar) (v : Room) → OnlyClosures g v v
-only-none g v = record { others = refl; words = refl; firsts = λ slot h. refl; behind = λ slot h ne. refl }
-
-pub only-both : (g : Grammar) (u v w : Room) → OnlyClosures g u v → OnlyClosures g v w → OnlyClosures g u w
-only-both g u v w p q = record {
-  others = q .others ∙ p .others;
-  words = q .words ∙ p .words;
-  firsts = λ slot h. q .firsts slot h ∙ p .firsts slot h;
-  behind = λ slot h ne. q .behind slot h ne ∙ p .behind slot h ne;
-}
-
-module _ (g : Grammar) (v q : Room) (slot s : ℕ) (put : q ≡ putSet slot s v) where
-  others-put : withSets [] q ≡ withSets [] v
-  others-put = ap (withSets []) put
-
-  words-put : length (q .sets) ≡ length (v .sets)
-  words-put = ap (λ (r : Room). length (r .sets)) put ∙ length-stored-set (v .sets) slot s
-
-  -- a set was put into a nonterminal's slot, or became the set at hand
-  pub only-own : (a : ℕ) → slot ≡ 64 + a → a < nonterminalCount g → OnlyClosures g v q
-  only-own a e h = record {
-    others = others-put;
-    words = words-put;
-    firsts = λ other l. put-elsewhere v q slot s put other (λ z. omega arith);
-    behind = λ other l ne. put-elsewhere v q slot s put other (λ z. omega arith);
-  }
-
-  pub only-hand : nonterminalCount g ≤ 64 → slot ≡ 4224 → OnlyClosures g v q
-  only-hand few e = record {
-    others = others-put;
-    words = words-put;
-    firsts = λ other l. put-elsewhere v q slot s put other (λ z. omega arith);
-    behind = λ other l ne. put-elsewhere v q slot s put other (λ z. ne (omega arith));
-  }
-
-  pub closures-hand : nonterminalCount g ≤ 64 → slot ≡ 4224 → closuresIn g q ≡ closuresIn g v
-  closures-hand few e = ap (closuresIn g) put ∙ loads-before slot s (v .sets) 64 (nonterminalCount g) (omega arith)
-
 -- ---- closing an item
-close-item-is : (g : Grammar) (follow : Follow) (i s : ℕ) (sets : Sets) → closes g i s ≡ true
+pub close-item-is : (g : Grammar) (follow : Follow) (i s : ℕ) (sets : Sets) → closes g i s ≡ true
     → closeItem g follow i s sets ≡ set sets (at g (i + 1) .symbol) (join (setOf sets (at g (i + 1) .symbol)) (handsOn g follow i s))
 unfolding closeItem joinAt
 close-item-is g follow i s sets e = rw e
 
-item-closed-is : (g : Grammar) (follow : Follow) (sets : Sets) (i s : ℕ) → closes g i s ≡ true → itemClosed g follow sets i s ≡ within (handsOn g follow i s) (setOf sets (at g (i + 1) .symbol))
+pub close-item-passes : (g : Grammar) (follow : Follow) (i s : ℕ) (sets : Sets) → closes g i s ≡ false → closeItem g follow i s sets ≡ sets
+unfolding closeItem
+close-item-passes g follow i s sets e = rw e
+
+pub item-closed-is : (g : Grammar) (follow : Follow) (sets : Sets) (i s : ℕ) → closes g i s ≡ true → itemClosed g follow sets i s ≡ within (handsOn g follow i s) (setOf sets (at g (i + 1) .symbol))
 unfolding itemClosed
 item-closed-is g follow sets i s e = rw e
 

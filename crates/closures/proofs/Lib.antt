@@ -1,1 +1,4 @@
+pub mod Frames
 pub mod Handing
+pub mod Kernels
+pub mod LeftSides
