@@ -72,7 +72,7 @@ loads-empty b (suc m) words none = ap₂ _∷_ (none b (omega arith) (omega arit
 
 -- ---- what is asked, FIRST and the entries stay
 pub closable-kept : (bytes : List ℕ) (n : ℕ) (w₀ w : List ℕ) → Closable bytes n w₀ → length w ≡ length w₀ → Closable bytes n w
-closable-kept bytes n w₀ w closable same = record { clean = closable .clean; few = closable .few; long = omega (arith, closable .long) }
+closable-kept bytes n w₀ w closable same = record { clean = closable .clean; short = closable .short; few = closable .few; long = omega (arith, closable .long) }
 
 module _ (g : Grammar) (v q : Room) (clean : firstFault limits g ≡ length g) (only : OnlyClosures g v q) where
   pub follow-kept : (canonical : Bool) (n : ℕ) → followIn g canonical n q ≡ followIn g canonical n v

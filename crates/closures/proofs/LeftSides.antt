@@ -44,6 +44,9 @@ closed-rests g follow i s sets e = by-closes (closes g i s) refl
 pub left-side-slot : (bytes : List ℕ) (n i a own : ℕ) (w : List ℕ) → Closable bytes n w → 8 * i + 8 ≤ length bytes → a ≡ at (records bytes) i .symbol → own ≡ 64 + a → own < 4224
 left-side-slot bytes n i a own w closable h named e = let l = symbol-read bytes i a (closable .clean) h named in omega arith
 
+pub left-side-fits : (bytes : List ℕ) (n i a own : ℕ) (w : List ℕ) → Closable bytes n w → 8 * i + 8 ≤ length bytes → a ≡ at (records bytes) i .symbol → own ≡ 64 + a → own < 4225
+left-side-fits bytes n i a own w closable h named e = omega (arith, left-side-slot bytes n i a own w closable h named e)
+
 module _ (bytes : List ℕ) (canonical : Bool) (n i : ℕ) (w : List ℕ) (b : Bool) (starts : b ≡ atStart (records bytes) i) where
   pub left-side-passed : not b ≡ true → LeftSideCloses bytes canonical n i w w false
   left-side-passed e =
@@ -55,7 +58,7 @@ module _ (bytes : List ℕ) (canonical : Bool) (n i : ℕ) (w : List ℕ) (b : B
     unfolding atStart
     left-side = sym starts ∙ not-false b e
 
-    own-set : setAt (view w) own ≡ setOf (closuresIn (records bytes) (view w)) (at (records bytes) i .symbol)
+    pub own-set : setAt (view w) own ≡ setOf (closuresIn (records bytes) (view w)) (at (records bytes) i .symbol)
     unfolding setOf
     own-set =
         let l : i < length (records bytes) = omega (arith, length-records bytes) in

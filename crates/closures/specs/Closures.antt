@@ -44,6 +44,7 @@ leftSideClosed g follow sets i = itemClosed g follow sets i (setOf sets (at g i 
 -- ---- what closing asks of the grammar's bytes, of the number of its terminals and of the room
 pub record Closable (bytes : List ℕ) (n : ℕ) (work : List ℕ) : Type 0 where
   pub clean : firstFault limits (records bytes) ≡ length (records bytes)
+  pub short : length bytes ≤ 4096
   pub few : FewTerminals n
   pub long : LongEnough work
 
