@@ -1,0 +1,3 @@
+pub mod Compare
+pub mod Parents
+pub mod Walks

@@ -1,0 +1,2 @@
+// The states of the two constructions: kernel_set.rs, core/mod.rs and build/mod.rs.
+pub mod kernels;
