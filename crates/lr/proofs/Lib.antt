@@ -1,3 +1,4 @@
 pub mod Compare
+pub mod Moves
 pub mod Parents
 pub mod Walks
