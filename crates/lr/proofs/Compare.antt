@@ -95,10 +95,10 @@ module _ (g : Grammar) (x : Symbol) (v : Room) where
   found k end r h e = rw e (found-over (end - k) k end (omega arith))
 
   -- at an entry before x, and at the end
-  kernel-at : (k end : ℕ) → k < end → standsBefore g x v k ≡ true → kernelOver g x (runIn v k end) ≡ moved (entryIn v k) ∷ kernelOver g x (runIn v (k + 1) end)
+  pub kernel-at : (k end : ℕ) → k < end → standsBefore g x v k ≡ true → kernelOver g x (runIn v k end) ≡ moved (entryIn v k) ∷ kernelOver g x (runIn v (k + 1) end)
   kernel-at k end h t = ap (kernelOver g x) (each-more (entryIn v) end k h) ∙ kernel-hit g x (entryIn v k) _ (sym (stands-is k) ∙ t)
 
-  kernel-over : (k end : ℕ) → end ≤ k → kernelOver g x (runIn v k end) ≡ []
+  pub kernel-over : (k end : ℕ) → end ≤ k → kernelOver g x (runIn v k end) ≡ []
   kernel-over k end h = ap (kernelOver g x) (each-none (entryIn v) end k h) ∙ kernel-none g x
 
 placed-from : (recordCount : ℕ) (v : Room) (k end r : ℕ) → PlacedRun recordCount v k end → k ≤ r → r ≤ end → PlacedRun recordCount v r end

@@ -1,4 +1,5 @@
 pub mod Compare
+pub mod Growing
 pub mod Leading
 pub mod Moves
 pub mod Parents

@@ -155,7 +155,7 @@ module _ (g : Grammar) (kernel : State) (start : TokenSet) (v : Room) where
       let z : placeOf (sameKernel kernel) (eachFrom (kernelIn g start v) 0 count) ≡ 0 + placeOf (sameKernel kernel) (eachFrom (kernelIn g start v) 0 count) = omega arith in
       z ∙ place-from (sameKernel kernel) (kernelIn g start v) count 0
 
-  kernel-other : (t : ℕ) → 0 < t → kernelIn g start v t ≡ kernelOver g (parentSymbol v t) (stateIn v (parentOf v t))
+  pub kernel-other : (t : ℕ) → 0 < t → kernelIn g start v t ≡ kernelOver g (parentSymbol v t) (stateIn v (parentOf v t))
   unfolding kernelIn
   kernel-other t h = rw (ne-eqb t 0 (λ e. omega arith))
 
