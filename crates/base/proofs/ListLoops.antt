@@ -39,18 +39,18 @@ module _ (test : ℕ → Bool) where
   unfolding kept
   kept-start n = rw numbers-start
 
-  kept-none : (n i : ℕ) → n ≤ i → kept n i ≡ []
+  pub kept-over : (n i : ℕ) → n ≤ i → kept n i ≡ []
   unfolding kept
-  kept-none n i h = rw (numbers-none (n - i) i (omega arith))
+  kept-over n i h = rw (numbers-none (n - i) i (omega arith))
 
   kept-more : (n i : ℕ) → i < n → kept n i ≡ pick (test i) (i ∷ kept n (i + 1)) (kept n (i + 1))
   unfolding kept
   kept-more n i h = rw (numbers-more (n - i) (n - (i + 1)) i (omega arith))
 
-  kept-hit : (n i : ℕ) → i < n → test i ≡ true → kept n i ≡ i ∷ kept n (i + 1)
+  pub kept-hit : (n i : ℕ) → i < n → test i ≡ true → kept n i ≡ i ∷ kept n (i + 1)
   kept-hit n i h f = kept-more n i h ∙ rw f
 
-  kept-miss : (n i : ℕ) → i < n → test i ≡ false → kept n i ≡ kept n (i + 1)
+  pub kept-miss : (n i : ℕ) → i < n → test i ≡ false → kept n i ≡ kept n (i + 1)
   kept-miss n i h f = kept-more n i h ∙ rw f
 
 -- how many there are
@@ -63,7 +63,7 @@ module _ (test : ℕ → Bool) (n i : ℕ) where
       go false f = let q : d ≡ 0 = p ∙ rw f in let l = ap length (kept-miss test n i h f) in omega arith
 
   pub count-end : (a t : ℕ) → n ≤ i → a + length (kept test n i) ≡ t → a ≡ t
-  count-end a t h e = let l = ap length (kept-none test n i h) in omega arith
+  count-end a t h e = let l = ap length (kept-over test n i h) in omega arith
 
 -- a step for each
 module _ {ℓ} {A : Type ℓ} (test : ℕ → Bool) (step : ℕ → A → A) (n i : ℕ) (a t : A) where
@@ -77,7 +77,7 @@ module _ {ℓ} {A : Type ℓ} (test : ℕ → Bool) (step : ℕ → A → A) (n 
 
   pub kept-fold-end : n ≤ i → foldOver step (kept test n i) a ≡ t → a ≡ t
   unfolding foldOver
-  kept-fold-end h e = rw (kept-none test n i h) at e
+  kept-fold-end h e = rw (kept-over test n i h) at e
 
 -- each passes a second test
 module _ (test holds : ℕ → Bool) (n i : ℕ) (t : Bool) where
@@ -103,7 +103,7 @@ module _ (test holds : ℕ → Bool) (n i : ℕ) (t : Bool) where
 
   pub kept-each-end : n ≤ i → eachOf holds (kept test n i) ≡ t → true ≡ t
   unfolding eachOf
-  kept-each-end h e = rw (kept-none test n i h) at e
+  kept-each-end h e = rw (kept-over test n i h) at e
 
 -- ---- the greatest of what the list's elements have
 module _ {A : Type 0} (f : A → ℕ) (d : A) (xs : List A) where

@@ -50,7 +50,7 @@ fn add_first_at(g: &[u8], n: usize, i: usize, work: &mut [u64]) -> bool
 }
 
 // One of the two holds.
-fn either(a: bool, b: bool) -> bool
+pub fn either(a: bool, b: bool) -> bool
     ensures { λ r. ⌜ r ≡ pick a true b ⌝ }
 {
     if a {

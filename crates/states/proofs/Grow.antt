@@ -9,6 +9,7 @@ use lib.ListN.{getD, set}
 use lib.Seq.{getD-set-same, getD-set-other}
 use Rattle.base.proofs.EachLeft.{each-last}
 use Rattle.rules.specs.declared.StateIndex.{StateIndex}
+use Rattle.rules.specs.Tokens.{TokenSet}
 use Rattle.rules.specs.States.{Entry, State}
 use Rattle.room.specs.Areas.{Room}
 use Rattle.room.specs.Bounds.{IsState, IsEntry, IsItem}
@@ -18,30 +19,30 @@ use Rattle.room.proofs.Lengths.{Lengths}
 use Rattle.packed.proofs.Packs.{low-packed, middle-packed}
 use Rattle.lookahead.specs.Sets.{loadSet, storeSet, setAt}
 use Rattle.lookahead.proofs.Slots.{load-stored, load-other}
-use Rattle.states.specs.StatesIn.{entryIn, runIn, firstOf, stateIn, statesIn, PlacedRun, Placed, appendEntry, endState}
+use Rattle.states.specs.StatesIn.{entryIn, runIn, firstOf, stateIn, statesIn, PlacedRun, Placed, writeEntry, endState}
 use Rattle.states.proofs.States.{states-more, state-run, run-same}
 use Rattle.states.proofs.Places.{run-placed, placed-kept, states-kept, placed-same, states-same}
 
 -- ---- an entry is written at place k
-module _ (k item from : ℕ) (v q : Room) (put : q ≡ appendEntry k item from v) where
-  pub appended-there : Lengths v → IsEntry k → IsItem item → entryIn q k ≡ record { item = item; next = 0; set = setAt v from }
+module _ (k item : ℕ) (s : TokenSet) (v q : Room) (put : q ≡ writeEntry k item s v) where
+  pub appended-there : Lengths v → IsEntry k → IsItem item → entryIn q k ≡ record { item = item; next = 0; set = s }
   unfolding entryIn
   appended-there sized h small =
       let small-part : IsPart item = omega arith in
       let word : getD (set (v .entries) k (packed item 0 0)) k 0 ≡ packed item 0 0 = getD-set-same (v .entries) k (packed item 0 0) 0 (omega (arith, sized .entries-length)) in
-      let slot : loadSet (storeSet (entrySlot k) (setAt v from) (v .sets)) (entrySlot k) ≡ setAt v from = load-stored (v .sets) (entrySlot k) (setAt v from) (omega (arith, sized .sets-length)) in
+      let slot : loadSet (storeSet (entrySlot k) s (v .sets)) (entrySlot k) ≡ s = load-stored (v .sets) (entrySlot k) s (omega (arith, sized .sets-length)) in
       rw (put, word, slot, low-packed item 0 0 small-part (omega arith), middle-packed item 0 0 small-part (omega arith))
 
   pub appended-elsewhere : (j : ℕ) → (j ≡ k → ⊥) → entryIn q j ≡ entryIn v j
   unfolding entryIn
   appended-elsewhere j ne =
       let word : getD (set (v .entries) k (packed item 0 0)) j 0 ≡ getD (v .entries) j 0 = getD-set-other (v .entries) k j (packed item 0 0) 0 ne in
-      let slot : loadSet (storeSet (entrySlot k) (setAt v from) (v .sets)) (entrySlot j) ≡ setAt v (entrySlot j) = load-other (v .sets) (entrySlot k) (setAt v from) (entrySlot j) (λ e. ne (omega arith)) in
+      let slot : loadSet (storeSet (entrySlot k) s (v .sets)) (entrySlot j) ≡ setAt v (entrySlot j) = load-other (v .sets) (entrySlot k) s (entrySlot j) (λ e. ne (omega arith)) in
       rw (put, word, slot)
 
   -- a run that ends there has one entry more
   module _ (first : ℕ) where
-    pub appended-run : Lengths v → IsEntry k → IsItem item → first ≤ k → runIn q first (k + 1) ≡ runIn v first k ++ (record { item = item; next = 0; set = setAt v from } ∷ [])
+    pub appended-run : Lengths v → IsEntry k → IsItem item → first ≤ k → runIn q first (k + 1) ≡ runIn v first k ++ (record { item = item; next = 0; set = s } ∷ [])
     appended-run sized h small l =
         let size : k + 1 - first ≡ k - first + 1 = omega arith in
         let at : first + (k - first) ≡ k = omega arith in

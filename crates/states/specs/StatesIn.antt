@@ -8,6 +8,7 @@ use lib.ListN.{getD}
 use Rattle.base.specs.Each.{eachFrom}
 use Rattle.rules.specs.Limits.{maxStates, maxEntries}
 use Rattle.rules.specs.declared.StateIndex.{StateIndex}
+use Rattle.rules.specs.Tokens.{TokenSet}
 use Rattle.rules.specs.States.{Entry, State}
 use Rattle.room.specs.Areas.{Room, putEntry, putFirstEntry}
 use Rattle.packed.specs.Packed.{low, middle, packed}
@@ -59,9 +60,12 @@ pub record Placed (recordCount count : ℕ) (r : Room) : Type 0 where
 abbrev pub putNext : ℕ → StateIndex → Room → Room
 putNext k next r = putEntry k (packed (entryIn r k .item) (next .0) 0) r
 
--- with an entry at place k that leads nowhere yet and has the set of the slot `from`
+-- with an entry at place k that leads nowhere yet; its set is that of the slot `from`
+abbrev pub writeEntry : ℕ → ℕ → TokenSet → Room → Room
+writeEntry k item s r = putSet (entrySlot k) s (putEntry k (packed item 0 0) r)
+
 abbrev pub appendEntry : ℕ → ℕ → ℕ → Room → Room
-appendEntry k item from r = putSet (entrySlot k) (setAt r from) (putEntry k (packed item 0 0) r)
+appendEntry k item from r = writeEntry k item (setAt r from) r
 
 -- with a place where the entries of a state end
 abbrev pub endState : StateIndex → ℕ → Room → Room

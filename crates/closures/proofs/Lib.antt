@@ -1,0 +1,7 @@
+pub mod Appends
+pub mod Frames
+pub mod Handing
+pub mod Kernels
+pub mod LeftSides
+pub mod Present
+pub mod Written

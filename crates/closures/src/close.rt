@@ -1,0 +1,78 @@
+// The closed state: behind its kernel the left-side records of every nonterminal that has a set, ascending.
+ghost use mathlib.Core.Path.{_≡_};
+ghost use mathlib.Core.Bool.{_&&_, not};
+ghost use Prim.Native.Nat.{_+_, _*_, _≤_};
+ghost use lib.ListN.{length};
+ghost use Rattle.rules.specs.Limits.{maxEntries};
+ghost use Rattle.rules.specs.Records.{at, records};
+ghost use Rattle.rules.specs.Tokens.{isEmptySet};
+ghost use Rattle.rules.specs.Grammar.{atStart, leftSides, terminalCount, nonterminalCount};
+ghost use Rattle.rules.specs.First.{setOf};
+ghost use Rattle.room.specs.Areas.{view};
+ghost use Rattle.states.specs.StatesIn.{PlacedRun};
+ghost use Rattle.closures.specs.Closures.{Closable, closuresIn};
+ghost use Rattle.closures.specs.Runs.{AppendedRun, Closes, presentEntries};
+use super::Appended;
+use super::MAX_ENTRIES;
+use super::rounds::closure_sets;
+use grammar::items::at_start;
+use grammar::records::record_count;
+use grammar::records::symbol;
+use lookahead::is_empty;
+use room::slots::closure_slot;
+use states::append_entry;
+
+// Record i is a left side whose nonterminal has a set.
+fn is_present(g: &[u8], n: usize, i: usize, work: &[u64]) -> bool
+    requires { ⌜ Closable (now g) n (now work) × (8 * i + 8 ≤ length (now g)) ⌝ }
+    ensures { λ r. ⌜ r ≡ (atStart (records (now (g .entry))) i && not (isEmptySet (setOf (closuresIn (records (now (g .entry))) (view (now (work .entry)))) (at (records (now (g .entry))) i .symbol)))) ⌝ }
+{
+    if !at_start(g, i) {
+        return false;
+    }
+    let own = closure_slot(symbol(g, i));
+    !is_empty(work, own)
+}
+
+// The entries of the left-side records that are present are appended at the place `end`.
+fn append_left_sides(g: &[u8], n: usize, end: usize, work: &mut [u64]) -> Appended
+    requires { ⌜ Closable (now g) n (now work) × (end ≤ maxEntries) ⌝ }
+    ensures { λ r. ⌜ AppendedRun end (presentEntries (records (now (g .entry))) (closuresIn (records (now (g .entry))) (view (now (work .entry)))) (leftSides (records (now (g .entry))))) (view (now (work .entry))) (view (now (work .exit))) r ⌝ }
+{
+    let count = record_count(g);
+    let mut to = end;
+    let mut next = 0;
+    while next < count {
+        let i = next;
+        next = next + 1;
+        if !is_present(g, n, i, work) {
+            continue;
+        }
+        if to == MAX_ENTRIES {
+            return Appended::Full;
+        }
+        let own = closure_slot(symbol(g, i));
+        append_entry(work, to, i, own);
+        to = to + 1;
+    }
+    Appended::End(to)
+}
+
+// The kernel that lies from `first` to `end` is closed: behind it the left-side records of its closure are appended. n and m are the
+// grammar's numbers of terminals and nonterminals. build/mod.rs: transitive_closure
+pub fn close(
+    g: &[u8],
+    canonical: bool,
+    n: usize,
+    m: usize,
+    first: usize,
+    end: usize,
+    work: &mut [u64],
+) -> Appended
+    requires { ⌜ Closable (now g) n (now work) × PlacedRun (length (records (now g))) (view (now work)) first end ⌝ }
+    requires { ⌜ (n ≡ terminalCount (records (now g))) × (m ≡ nonterminalCount (records (now g))) ⌝ }
+    ensures { λ r. ⌜ Closes (now (g .entry)) canonical n first end (now (work .entry)) (now (work .exit)) r ⌝ }
+{
+    closure_sets(g, canonical, n, m, first, end, work);
+    append_left_sides(g, n, end, work)
+}

@@ -1,0 +1,6 @@
+pub mod Compare
+pub mod Growing
+pub mod Leading
+pub mod Moves
+pub mod Parents
+pub mod Walks

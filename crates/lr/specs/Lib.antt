@@ -1,0 +1,3 @@
+pub mod Expansions
+pub mod Kernels
+pub mod Links

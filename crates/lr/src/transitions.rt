@@ -1,0 +1,47 @@
+// The transitions of a state: build/mod.rs. Until a state is closed it is just its parent and the symbol that leads to it.
+ghost use mathlib.Core.Path.{_≡_};
+ghost use Prim.Native.Nat.{_+_, _<_};
+ghost use Rattle.room.specs.Bounds.{IsState, IsNonterminal};
+ghost use Rattle.lr.specs.Kernels.{Parented};
+ghost use Rattle.lr.specs.Expansions.{Transition};
+use super::Built;
+use super::MAX_STATES;
+use super::kernels::find_before;
+use super::kernels::find_kernel;
+use super::links::lead;
+use packed::parent_of;
+use room::areas::put_parent;
+use rules::BuildRefusal;
+use rules::StateIndex;
+use states::end_entry;
+use states::first_entry;
+
+// The transition of state s over a symbol: a state with an equal kernel is reused, else the next number is given, and 9 is met there.
+fn add_transition(
+    g: &[u8],
+    kind: usize,
+    x: usize,
+    s: StateIndex,
+    count: usize,
+    work: &mut [u64],
+) -> Built
+    requires { ⌜ Parented (now g) (s .0 + 1) count (now work) × IsState s × (kind < 2) × IsNonterminal x × (0 < count) ⌝ }
+    ensures { λ r. ⌜ Transition (now (g .entry)) kind x (s .0) count (now (work .entry)) (now (work .exit)) r ⌝ }
+{
+    let first = first_entry(work, s);
+    let end = end_entry(work, s);
+    if find_before(g, kind, x, work, first, end) == end {
+        return Built::States(count);
+    }
+    let t = find_kernel(g, kind, x, work, s, count);
+    if t < count {
+        lead(g, kind, x, first, end, StateIndex(t), work);
+        return Built::States(count);
+    }
+    if count == MAX_STATES {
+        return Built::Refused(BuildRefusal::States);
+    }
+    put_parent(work, StateIndex(count), parent_of(s, x, kind));
+    lead(g, kind, x, first, end, StateIndex(count), work);
+    Built::States(count + 1)
+}
