@@ -1,7 +1,7 @@
 -- The loops over columns.
 use Prim.Native.Nat.{ℕ, zero, suc, _+_, _-_, _<_, _≤_}
 use mathlib.Core.Path.{_≡_, refl, sym, ap, ap₂, _∙_}
-use mathlib.Core.Bool.{Bool, true, false, not, _&&_}
+use mathlib.Core.Bool.{Bool, true, false, not}
 use mathlib.Core.List.{List, [], _∷_}
 use native.Mathlib.Omega.{arith}
 use native.Mathlib.Decide.{ℕ-discrete}
@@ -9,6 +9,7 @@ use lib.ListN.{length, replicate}
 use borrow.Author.Tests.{not-true, not-false}
 use Rattle.base.specs.Each.{eachFrom}
 use Rattle.base.specs.Lists.{eachOf}
+use Rattle.base.proofs.Each.{each-same, each-one}
 use Rattle.base.proofs.EachLeft.{each-none, each-more}
 use Rattle.rules.specs.Limits.{workSize}
 use Rattle.rules.specs.Tokens.{TokenSet, join, disjoint}
@@ -22,9 +23,7 @@ use Rattle.context_set.specs.Columns.{columnsAt, columnsUpTo, columnsJoi
 
 -- ---- columns by their slots
 all-empty : (f : ℕ → TokenSet) (i n : ℕ) → ((k : ℕ) → i ≤ k → k < i + n → f k ≡ 0) → eachFrom f i n ≡ replicate n 0
-unfolding eachFrom
-all-empty f i zero same = refl
-all-empty f i (suc n) same = ap₂ _∷_ (same i (omega arith) (omega arith)) (all-empty f (suc i) n (λ k h g. same k (omega arith) (omega arith)))
+all-empty f i n same = each-same f (λ k. 0) i n same ∙ each-one (λ k. 0) i n 0 (λ k. refl)
 
 columns-joined : (p f h : ℕ → TokenSet) (i j n : ℕ) → ((k : ℕ) → k < n → p (i + k) ≡ join (f (i + k)) (h (j + k))) → eachFrom p i n ≡ joinColumns (eachFrom f i n) (eachFrom h j n)
 unfolding eachFrom joinColumns

@@ -78,13 +78,13 @@ set-only slot tokens v cell = record {
 pub hand-only : (tokens : TokenSet) (v : Room) → OnlyLanes v (putSet handSlot tokens v)
 hand-only tokens v = set-only handSlot tokens v (omega arith)
 
-mark-only : (s : ℕ) (v : Room) → OnlyLanes v (putEntered s 1 v)
-mark-only s v = record { others = refl; visited-words = refl; entered-words = length-set (v .entered) s 1; successor-words = refl; set-words = refl; slots = λ slot h. refl }
+pub mark-only : (s x : ℕ) (v : Room) → OnlyLanes v (putEntered s x v)
+mark-only s x v = record { others = refl; visited-words = refl; entered-words = length-set (v .entered) s x; successor-words = refl; set-words = refl; slots = λ slot h. refl }
 
 pub enter-only : (s c : ℕ) (tokens : TokenSet) (v : Room) → OnlyLanes v (tokensEntered s c tokens v)
-enter-only s c tokens v = only-both v (putEntered s 1 v) _ (mark-only s v) (set-only (cellSlot s c) _ (putEntered s 1 v) (omega arith))
+enter-only s c tokens v = only-both v (putEntered s 1 v) _ (mark-only s 1 v) (set-only (cellSlot s c) _ (putEntered s 1 v) (omega arith))
 
-hand-enters : (s c : ℕ) (tokens : TokenSet) (v : Room) → OnlyLanes v (handEntered s c tokens v)
+pub hand-enters : (s c : ℕ) (tokens : TokenSet) (v : Room) → OnlyLanes v (handEntered s c tokens v)
 hand-enters s c tokens v = only-both v (putSet handSlot tokens v) _ (hand-only tokens v) (enter-only s c tokens (putSet handSlot tokens v))
 
 start-only : (g : Grammar) (s c i : ℕ) (v : Room) → OnlyLanes v (startEntered g s c i v)

@@ -1,6 +1,6 @@
 -- A trace under way: v is the room where a loop over predecessors or items begins, q the room at hand.
 use Prim.Native.Nat.{ℕ, _-_, _≤_, _<_}
-use mathlib.Core.Path.{_≡_, refl, sym, ap, _∙_}
+use mathlib.Core.Path.{_≡_, refl, ap, _∙_}
 use mathlib.Core.Bool.{Bool, true, false}
 use mathlib.Core.List.{List}
 use native.Mathlib.Omega.{arith}
@@ -11,7 +11,7 @@ use Rattle.rules.specs.Records.{at, records}
 use Rattle.rules.specs.Tokens.{has, eof}
 use Rattle.rules.specs.Grammar.{start, terminalCount}
 use Rattle.rules.specs.First.{Sets}
-use Rattle.rules.specs.Lanes.{LaneTable, Trace, onTable, wasVisited, visit, enter, addSuccessor, enterStart, tokensPast}
+use Rattle.rules.specs.Lanes.{LaneTable, onTable, enter, addSuccessor, enterStart, tokensPast}
 use Rattle.grammar.specs.Asked.{InRange}
 use Rattle.room.specs.Areas.{Room, view}
 use Rattle.room.specs.Bounds.{LongEnough}

@@ -1,4 +1,7 @@
+pub mod Acts
+pub mod Builds
 pub mod Cells
+pub mod Clears
 pub mod CloseLoop
 pub mod Frames
 pub mod Going

@@ -8,7 +8,6 @@ use lib.ListN.{length}
 use Rattle.base.proofs.EachLeft.{each-among}
 use Rattle.rules.specs.Records.{records}
 use Rattle.rules.specs.Tokens.{has}
-use Rattle.rules.specs.States.{Entry}
 use Rattle.rules.specs.Lanes.{wasVisited, visit}
 use Rattle.rules.proofs.Laws.{length-records}
 use Rattle.room.specs.Areas.{Room, view}

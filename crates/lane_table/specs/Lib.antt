@@ -1,4 +1,6 @@
+pub mod Actions
 pub mod Changes
+pub mod Clears
 pub mod Graph
 pub mod Table
 pub mod Traces
