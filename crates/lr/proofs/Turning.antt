@@ -1,18 +1,19 @@
 -- Transitions in turn, as long as none refuses: what is left of them gives the same outcome.
-use Prim.Native.Nat.{ℕ, _+_, _-_, _≤_, _<_}
+use Prim.Native.Nat.{ℕ, zero, suc, _+_, _-_, _≤_, _<_}
 use mathlib.Core.Path.{_≡_, refl, sym, ap, _∙_}
-use mathlib.Core.List.{List, [], _∷_}
+use mathlib.Core.List.{List, [], _∷_, _++_, map}
 use native.Mathlib.Omega.{arith}
 use native.Mathlib.Nat.{sub-zero}
 use lib.ListN.{length, getD}
 use Rattle.base.specs.Each.{eachFrom}
+use Rattle.base.specs.Lists.{numbersFrom, upTo}
 use Rattle.base.proofs.EachLeft.{each-none, each-more}
 use Rattle.rules.specs.declared.BuildRefusal.{BuildRefusal}
 use Rattle.rules.specs.Limits.{limits}
-use Rattle.rules.specs.Records.{records}
+use Rattle.rules.specs.Records.{Grammar, records}
 use Rattle.rules.specs.Tokens.{TokenSet}
-use Rattle.rules.specs.Grammar.{Symbol}
-use Rattle.rules.specs.States.{Outcome, done, refused, eachInTurn, Expansion, addTransition}
+use Rattle.rules.specs.Grammar.{Symbol, nonterminal, terminal, terminalCount, nonterminalCount}
+use Rattle.rules.specs.States.{Outcome, done, refused, eachInTurn, symbols, addTransition}
 use Rattle.room.specs.Areas.{Room, view}
 use Rattle.states.specs.StatesIn.{firstOf}
 use Rattle.lr.specs.declared.Built.{Built}
@@ -106,3 +107,84 @@ module _ (bytes : List ℕ) (kind symbols s count : ℕ) (w₀ w : List ℕ) (st
       only = expanded-both (view w₀) (view w) (view after) s (walk .only) (call .only);
       left = tt;
     }
+
+-- ---- nonterminals, then terminals
+numbers-each : (f : ℕ → Symbol) (i n : ℕ) → map f (numbersFrom i n) ≡ eachFrom f i n
+unfolding numbersFrom eachFrom
+numbers-each f i zero = refl
+numbers-each f i (suc n) = ap (λ (xs : List Symbol). f i ∷ xs) (numbers-each f (suc i) n)
+
+symbols-are : (g : Grammar) (n m : ℕ) → n ≡ terminalCount g → m ≡ nonterminalCount g → symbols g ≡ symbolsBelow 0 m ++ symbolsBelow 1 n
+unfolding symbols upTo symbolsBelow symbolBy
+symbols-are g n m en em = rw (← en, ← em, numbers-each nonterminal 0 m, numbers-each terminal 0 n)
+
+module _ {A B : Type 0} (step : A → B → Outcome B) where
+  turns-both : (xs ys : List A) (a b : B) → eachInTurn step xs a ≡ done b → eachInTurn step (xs ++ ys) a ≡ eachInTurn step ys b
+  unfolding eachInTurn
+  turns-both [] ys a b e = ap (λ (o : Outcome B). elim o [ done c ↦ eachInTurn step ys c | refused why ↦ refused why ]) e
+  turns-both (x ∷ xs) ys a b e = go (step x a) e (λ c f. turns-both xs ys c b f)
+    where
+      go : (o : Outcome B) → (elim o [ done c ↦ eachInTurn step xs c | refused why ↦ refused why ]) ≡ done b → ((c : B) → eachInTurn step xs c ≡ done b → eachInTurn step (xs ++ ys) c ≡ eachInTurn step ys b)
+          → (elim o [ done c ↦ eachInTurn step (xs ++ ys) c | refused why ↦ refused why ]) ≡ eachInTurn step ys b
+      go (done c) f more = more c f
+      go (refused why) f more = let z : _≡_ {A = ℕ} 0 1 = cc in absurd (omega arith)
+
+  turns-stop : (xs ys : List A) (a : B) (why : BuildRefusal) → eachInTurn step xs a ≡ refused why → eachInTurn step (xs ++ ys) a ≡ refused why
+  unfolding eachInTurn
+  turns-stop [] ys a why e = let z : _≡_ {A = ℕ} 0 1 = cc in absurd (omega arith)
+  turns-stop (x ∷ xs) ys a why e = go (step x a) e (λ c f. turns-stop xs ys c why f)
+    where
+      go : (o : Outcome B) → _≡_ {A = Outcome B} (elim o [ done c ↦ eachInTurn step xs c | refused y ↦ refused y ]) (refused why) → ((c : B) → eachInTurn step xs c ≡ refused why → eachInTurn step (xs ++ ys) c ≡ refused why)
+          → _≡_ {A = Outcome B} (elim o [ done c ↦ eachInTurn step (xs ++ ys) c | refused y ↦ refused y ]) (refused why)
+      go (done c) f more = more c f
+      go (refused y) f more = f
+
+module _ (bytes : List ℕ) (xs : List Symbol) (s count : ℕ) (w w₁ : List ℕ) (r : Built) (over : Transitions bytes xs s count w w₁ r) (more : ℕ) (is : r ≡ States more) where
+  first-done : (start : TokenSet) → done (expansionIn (records bytes) start (view w₁) s more) ≡ eachInTurn (addTransition limits (records bytes)) xs (expansionIn (records bytes) start (view w) s count)
+  unfolding expandedTo
+  first-done start = rw is at (over .outcome start)
+
+  first-grown : count ≤ more
+  unfolding StillParented
+  first-grown = (rw is at (over .left)) .0
+
+still-later : (bytes : List ℕ) (s count more : ℕ) (w : List ℕ) (r : Built) → count ≤ more → StillParented bytes s more r w → StillParented bytes s count r w
+unfolding StillParented
+still-later bytes s count more w (States last) h (l, parented) = (omega arith, parented)
+still-later bytes s count more w (Refused why) h l = tt
+
+module _ (bytes : List ℕ) (n m s count : ℕ) (w w₁ : List ℕ) (r : Built) (terminals : n ≡ terminalCount (records bytes)) (nonterminals : m ≡ nonterminalCount (records bytes))
+    (over : Transitions bytes (symbolsBelow 0 m) s count w w₁ r) where
+  pub first-refused : (why : BuildRefusal) → r ≡ Refused why → Transitions bytes (symbols (records bytes)) s count w w₁ (Refused why)
+  unfolding expandedTo StillParented
+  first-refused why is = record {
+    outcome = λ start.
+        sym (ap (λ (xs : List Symbol). eachInTurn (addTransition limits (records bytes)) xs (expansionIn (records bytes) start (view w) s count)) (symbols-are (records bytes) n m terminals nonterminals)
+        ∙ turns-stop (addTransition limits (records bytes)) (symbolsBelow 0 m) (symbolsBelow 1 n) _ why (sym (rw is at (over .outcome start))));
+    only = over .only;
+    left = tt;
+  }
+
+  module _ (more : ℕ) (is : r ≡ States more) where
+    pub still-parented : Parented bytes (s + 1) more w₁
+    unfolding StillParented
+    still-parented = (rw is at (over .left)) .1
+
+    pub still-begun : 0 < count → 0 < more
+    still-begun h = omega (arith, first-grown bytes (symbolsBelow 0 m) s count w w₁ r over more is)
+
+    pub both-over : (w₂ : List ℕ) (q : Built) → Transitions bytes (symbolsBelow 1 n) s more w₁ w₂ q → Transitions bytes (symbols (records bytes)) s count w w₂ q
+    both-over w₂ q later = record {
+      outcome = λ start.
+          later .outcome start
+          ∙ sym (ap (λ (xs : List Symbol). eachInTurn (addTransition limits (records bytes)) xs (expansionIn (records bytes) start (view w) s count)) (symbols-are (records bytes) n m terminals nonterminals)
+          ∙ turns-both (addTransition limits (records bytes)) (symbolsBelow 0 m) (symbolsBelow 1 n) _ _ (sym (done-here start)));
+      only = expanded-both (view w) (view w₁) (view w₂) s (over .only) (later .only);
+      left = grown-left q (later .left);
+    }
+      where
+        done-here : (start : TokenSet) → done (expansionIn (records bytes) start (view w₁) s more) ≡ eachInTurn (addTransition limits (records bytes)) (symbolsBelow 0 m) (expansionIn (records bytes) start (view w) s count)
+        done-here start = first-done bytes (symbolsBelow 0 m) s count w w₁ r over more is start
+
+        grown-left : (q : Built) → StillParented bytes s more q w₂ → StillParented bytes s count q w₂
+        grown-left q l = still-later bytes s count more w₂ q (first-grown bytes (symbolsBelow 0 m) s count w w₁ r over more is) l

@@ -2,7 +2,6 @@
 use Prim.Native.Nat.{ℕ, _+_, _≤_, _<_}
 use mathlib.Core.Path.{_≡_}
 use mathlib.Core.List.{List, []}
-use lib.ListN.{length}
 use Rattle.base.specs.Each.{eachFrom}
 use Rattle.rules.specs.Limits.{limits}
 use Rattle.rules.specs.Records.{Grammar, records}
