@@ -1,6 +1,6 @@
 -- What stays while a closure is collected: every area but the sets, FIRST, the entries and their sets.
 use Prim.Native.Nat.{ℕ, zero, suc, _+_, _≤_, _<_}
-use mathlib.Core.Path.{_≡_, refl, sym, ap, ap₂, _∙_}
+use mathlib.Core.Path.{_≡_, refl, ap, ap₂, _∙_}
 use mathlib.Core.Bool.{Bool}
 use mathlib.Core.List.{List, [], _∷_}
 use native.Mathlib.Omega.{arith}
@@ -13,7 +13,7 @@ use Rattle.rules.specs.Grammar.{nonterminalCount, firstFault}
 use Rattle.rules.specs.States.{Entry}
 use Rattle.room.specs.Areas.{Room, withSets}
 use Rattle.room.specs.Bounds.{IsEntry}
-use Rattle.lookahead.specs.Sets.{loadSet, setAt, putSet}
+use Rattle.lookahead.specs.Sets.{loadSet, putSet}
 use Rattle.lookahead.proofs.Slots.{put-elsewhere, length-stored-set}
 use Rattle.grammar.proofs.Coded.{nonterminal-count-below}
 use Rattle.first.proofs.Loads.{loads-before}

@@ -1,13 +1,12 @@
 -- One item that hands on its set: what closing it makes of the closure's sets, and what it leaves as it was.
 use Prim.Native.Nat.{ℕ, _+_, _*_, _≤_, _<_}
 use mathlib.Core.Path.{_≡_, refl, sym, ap, _∙_}
-use mathlib.Core.Bool.{Bool, true, false, not, _&&_, _||_}
+use mathlib.Core.Bool.{Bool, true, false, not, _&&_}
 use mathlib.Core.List.{List}
 use native.Mathlib.Omega.{arith}
 use lib.ListN.{length, set}
 use lib.Dec.{eqb}
 use borrow.Author.Tests.{not-true, not-false}
-use Rattle.base.specs.Pick.{pick}
 use Rattle.base.proofs.Each.{each-at}
 use Rattle.base.proofs.Tests.{both-true}
 use Rattle.rules.specs.Records.{Grammar, at, records, isTerminal}
@@ -15,7 +14,7 @@ use Rattle.rules.specs.Tokens.{TokenSet, isEmptySet, join, within}
 use Rattle.rules.specs.Grammar.{atEnd, symbolsBehind, nonterminalCount}
 use Rattle.rules.specs.First.{Sets, setOf, joinAt, first1}
 use Rattle.rules.specs.States.{Follow, closes, handsOn, closeItem, itemClosed}
-use Rattle.rules.proofs.Laws.{length-records, not-at-end-within, nonterminal-counted-at}
+use Rattle.rules.proofs.Laws.{not-at-end-within, nonterminal-counted-at}
 use Rattle.room.specs.Areas.{Room, view}
 use Rattle.room.proofs.Lengths.{view-lengths}
 use Rattle.lookahead.specs.Sets.{loadSet, setAt, putSet}

@@ -22,7 +22,7 @@ use Rattle.states.specs.StatesIn.{entryIn, runIn, PlacedRun}
 use Rattle.states.proofs.States.{set-of}
 use Rattle.states.proofs.Places.{item-fits}
 use Rattle.closures.specs.Closures.{closuresIn, followIn, Closable, OnlyClosures, ItemCloses, RoundsClose, KernelCloses, ClosuresCleared, ClosureFound}
-use Rattle.closures.proofs.Frames.{only-none, only-both, only-own, only-hand, closures-hand, sets-empty, closable-kept, follow-kept, entry-kept, run-kept, placed-run-kept}
+use Rattle.closures.proofs.Frames.{only-none, only-both, only-own, only-hand, closures-hand, sets-empty, follow-kept, entry-kept, run-kept, placed-run-kept}
 
 -- ---- the nonterminals below a have no set
 pub record ClearLeft (bytes : List ℕ) (m : ℕ) (w₀ w : List ℕ) (a : ℕ) : Type 0 where

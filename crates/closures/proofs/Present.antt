@@ -15,9 +15,8 @@ use Rattle.rules.specs.Records.{Grammar, at, records}
 use Rattle.rules.specs.Tokens.{isEmptySet}
 use Rattle.rules.specs.Grammar.{atStart, leftSides, nonterminalCount}
 use Rattle.rules.specs.First.{Sets, setOf}
-use Rattle.rules.specs.States.{Entry, State, entryOf}
-use Rattle.rules.proofs.Laws.{length-records}
-use Rattle.room.specs.Areas.{Room, view}
+use Rattle.rules.specs.States.{entryOf}
+use Rattle.room.specs.Areas.{view}
 use Rattle.lookahead.specs.Sets.{setAt}
 use Rattle.grammar.proofs.Coded.{nonterminal-count-below}
 use Rattle.grammar.proofs.Laws.{left-sides}

@@ -1,5 +1,5 @@
 -- What a room with appended entries has: the run of them, and everything else as it was.
-use Prim.Native.Nat.{ℕ, zero, suc, _+_, _-_, _≤_, _<_}
+use Prim.Native.Nat.{ℕ, suc, _+_, _-_, _≤_, _<_}
 use mathlib.Core.Path.{_≡_, refl, sym, ap, _∙_}
 use mathlib.Core.Bool.{Bool, true, false}
 use mathlib.Core.List.{List, [], _∷_, _++_, append-nil, append-assoc}
@@ -9,26 +9,24 @@ use lib.Seq.{take-all}
 use lib.Dec.{ltb}
 use borrow.Author.Tests.{ltb-false}
 use Rattle.base.specs.Among.{Among, here, later}
-use Rattle.base.specs.Pick.{pick}
-use Rattle.base.specs.Lists.{keep}
 use Rattle.base.proofs.Lists.{keep-among, upTo-among}
 use Rattle.base.proofs.Members.{map-among}
 use Rattle.base.proofs.EachLeft.{each-length}
 use Rattle.rules.specs.Records.{Grammar, records}
-use Rattle.rules.specs.Grammar.{leftSides, atStart, nonterminalCount}
+use Rattle.rules.specs.Grammar.{leftSides, atStart}
 use Rattle.rules.specs.First.{Sets}
 use Rattle.rules.specs.States.{Entry, State, Follow, entryOf, closure, closureSets}
 use Rattle.rules.proofs.Laws.{length-records}
 use Rattle.room.specs.Areas.{Room, view, withEntries, withSets}
 use Rattle.room.proofs.Lengths.{Lengths, view-lengths}
-use Rattle.lookahead.specs.Sets.{setAt, storeSet}
+use Rattle.lookahead.specs.Sets.{setAt}
 use Rattle.lookahead.proofs.Slots.{load-other, length-stored-set}
 use Rattle.grammar.proofs.Coded.{nonterminal-count-below}
 use Rattle.states.specs.StatesIn.{entryIn, runIn, PlacedRun, writeEntry}
 use Rattle.states.proofs.Grow.{appended-elsewhere, appended-run, appended-placed-run}
 use Rattle.closures.specs.declared.Appended.{Appended}
 use Rattle.closures.specs.declared.Appended.the-variants.{End, Full}
-use Rattle.closures.specs.Closures.{closuresIn, followIn, Closable, OnlyClosures, ClosureFound}
+use Rattle.closures.specs.Closures.{closuresIn, followIn, Closable, ClosureFound}
 use Rattle.closures.specs.Runs.{appendAll, appendRun, runEnd, AppendedRun, presentEntries, OnlyBehind, Closes}
 use Rattle.closures.proofs.Frames.{entry-kept, run-kept, placed-run-kept}
 

@@ -9,7 +9,6 @@ use native.Mathlib.Decide.{ℕ-discrete, decLe}
 use lib.ListN.{length}
 use lib.Dec.{eqb, leb}
 use borrow.Author.Tests.{eq-eqb, ne-eqb, le-leb, lt-leb, not-true, not-false}
-use Rattle.base.specs.Each.{eachFrom}
 use Rattle.base.specs.Pick.{pick}
 use Rattle.base.specs.Loops.{firstFrom}
 use Rattle.base.specs.Lists.{keep}

@@ -7,32 +7,29 @@ use native.Mathlib.Omega.{arith}
 use native.Mathlib.Decide.{ℕ-discrete}
 use lib.ListN.{length, getD, set}
 use lib.Seq.{getD-set-same, getD-set-other}
-use lib.Dec.{eqb, ltb}
 use borrow.Author.Tests.{eq-eqb, ne-eqb, lt-ltb, le-ltb}
 use Rattle.base.specs.Each.{eachFrom}
 use Rattle.base.specs.Lists.{placeOf, isEmpty}
 use Rattle.base.proofs.Each.{each-same}
 use Rattle.base.proofs.EachLeft.{each-length, each-last}
-use Rattle.rules.specs.declared.StateIndex.{StateIndex}
 use Rattle.rules.specs.declared.BuildRefusal.the-variants.{States as TooManyStates}
 use Rattle.rules.specs.Limits.{limits}
 use Rattle.rules.specs.Records.{Grammar, records}
 use Rattle.rules.specs.Tokens.{TokenSet}
 use Rattle.rules.specs.Grammar.{Symbol, isBefore}
-use Rattle.rules.specs.States.{Entry, State, Outcome, done, refused, Expansion, kernelOver, sameKernel, lead, addTransition}
+use Rattle.rules.specs.States.{Entry, State, done, refused, Expansion, kernelOver, sameKernel, lead, addTransition}
 use Rattle.room.specs.Areas.{Room, view, withEntries, withVisited, putVisited}
-use Rattle.room.specs.Bounds.{IsState}
 use Rattle.packed.specs.Packed.{packed, low, middle, high}
 use Rattle.room.proofs.Lengths.{view-lengths}
 use Rattle.packed.proofs.Packs.{low-packed, middle-packed, high-packed}
 use Rattle.lookahead.specs.Sets.{setAt}
 use Rattle.states.specs.StatesIn.{entryIn, runIn, firstOf, stateIn, PlacedRun}
-use Rattle.states.proofs.States.{set-of, state-run, run-same}
+use Rattle.states.proofs.States.{set-of, state-run}
 use Rattle.states.proofs.Places.{run-placed, placed-same}
 use Rattle.lr.specs.declared.Built.the-variants.{States, Refused}
 use Rattle.lr.specs.Kernels.{symbolBy, firstBefore, parentWord, parentOf, parentSymbol, kernelIn, kernelsIn, Parented, HasKernel, KernelPlace}
 use Rattle.lr.specs.Links.{OnlyLinks, Leads}
-use Rattle.lr.specs.Expansions.{expansionIn, expandedTo, OnlyExpanded, StillParented, Transition}
+use Rattle.lr.specs.Expansions.{expansionIn, expandedTo, StillParented, Transition}
 use Rattle.lr.proofs.Compare.{moved, kernel-hit, kernel-miss, found, kernel-at, kernel-over}
 use Rattle.lr.proofs.Parents.{kernel-other}
 

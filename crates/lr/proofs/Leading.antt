@@ -1,8 +1,8 @@
 -- The loop that gives the entries of a run the state that they lead to.
 use Prim.Native.Nat.{ℕ, zero, suc, _+_, _-_, _*_, _≤_, _<_}
-use mathlib.Core.Path.{_≡_, refl, sym, ap, ap₂, _∙_}
+use mathlib.Core.Path.{_≡_, refl, sym, ap, _∙_}
 use mathlib.Core.Bool.{Bool, true, false}
-use mathlib.Core.List.{List, [], _∷_, map}
+use mathlib.Core.List.{List, [], _∷_}
 use native.Mathlib.Omega.{arith}
 use native.Mathlib.Decide.{ℕ-discrete, decLe}
 use lib.ListN.{length}
@@ -16,11 +16,11 @@ use Rattle.rules.specs.States.{Entry, State, lead}
 use Rattle.room.specs.Areas.{Room, withEntries, view}
 use Rattle.room.specs.Bounds.{IsState}
 use Rattle.room.proofs.Lengths.{view-lengths}
-use Rattle.states.specs.StatesIn.{entryIn, runIn, PlacedRun, putNext}
+use Rattle.states.specs.StatesIn.{entryIn, PlacedRun, putNext}
 use Rattle.states.proofs.Changes.{next-there, stored-elsewhere}
 use Rattle.states.proofs.Places.{item-fits}
 use Rattle.lr.specs.Kernels.{symbolBy, standsBefore}
-use Rattle.lr.specs.Links.{OnlyLinks, Leads}
+use Rattle.lr.specs.Links.{Leads}
 
 -- ---- one entry
 abbrev led : Grammar → Symbol → ℕ → Entry → Entry

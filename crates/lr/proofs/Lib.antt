@@ -3,4 +3,5 @@ pub mod Growing
 pub mod Leading
 pub mod Moves
 pub mod Parents
+pub mod Turning
 pub mod Walks

@@ -1,22 +1,22 @@
 -- The loop that appends what a run of entries becomes over a symbol.
 use Prim.Native.Nat.{ℕ, _+_, _*_, _≤_, _<_}
 use mathlib.Core.Path.{_≡_, refl, sym, ap, _∙_}
-use mathlib.Core.Bool.{Bool, true, false, not, _&&_}
-use mathlib.Core.List.{List, [], _∷_}
+use mathlib.Core.Bool.{Bool, true, false, not}
+use mathlib.Core.List.{List, _∷_}
 use native.Mathlib.Omega.{arith}
 use lib.ListN.{length}
 use borrow.Author.Tests.{not-true, not-false}
 use Rattle.base.proofs.EachLeft.{each-none, each-more}
 use Rattle.base.proofs.Tests.{both-true}
-use Rattle.rules.specs.Records.{Grammar, records}
+use Rattle.rules.specs.Records.{records}
 use Rattle.rules.specs.Grammar.{Symbol, atEnd, isBefore}
-use Rattle.rules.specs.States.{Entry, State, kernelOver}
+use Rattle.rules.specs.States.{Entry, kernelOver}
 use Rattle.rules.proofs.Laws.{length-records, not-at-end-within}
-use Rattle.room.specs.Areas.{Room, view}
+use Rattle.room.specs.Areas.{view}
 use Rattle.lookahead.specs.Sets.{setAt}
 use Rattle.states.specs.StatesIn.{entryIn, runIn, PlacedRun, appendEntry}
 use Rattle.states.proofs.States.{set-of}
-use Rattle.states.proofs.Places.{item-fits, run-placed}
+use Rattle.states.proofs.Places.{item-fits}
 use Rattle.states.proofs.Grow.{appended-elsewhere}
 use Rattle.closures.specs.declared.Appended.the-variants.{End, Full}
 use Rattle.closures.specs.Runs.{AppendedRun}

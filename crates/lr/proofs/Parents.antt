@@ -1,13 +1,12 @@
 -- Kernels found by their parents: over different symbols they differ, and the search for one goes by numbers of states.
 use Prim.Native.Nat.{ℕ, zero, suc, _+_, _-_, _≤_, _<_}
 use mathlib.Core.Path.{_≡_, refl, sym, ap, ap₂, _∙_}
-use mathlib.Core.Bool.{Bool, true, false, not, _&&_, true≢false}
-use mathlib.Core.List.{List, [], _∷_, map}
+use mathlib.Core.Bool.{Bool, true, false, not, true≢false}
+use mathlib.Core.List.{List, [], _∷_}
 use native.Mathlib.Omega.{arith}
-use native.Mathlib.Numerals.{add-one}
 use lib.ListN.{length}
 use lib.Dec.{eqb}
-use borrow.Author.Tests.{eqb-true, eq-eqb, ne-eqb}
+use borrow.Author.Tests.{eqb-true, ne-eqb}
 use Rattle.base.specs.Among.{Among, here}
 use Rattle.base.specs.Each.{eachFrom}
 use Rattle.base.specs.Pick.{pick}
@@ -23,7 +22,7 @@ use Rattle.rules.specs.Grammar.{Symbol, nonterminal, terminal, atEnd, symbolOf,
 use Rattle.rules.specs.States.{Entry, State, kernelOver, sameKernel}
 use Rattle.room.specs.Areas.{Room, view}
 use Rattle.packed.specs.Packed.{low, middle, high}
-use Rattle.states.specs.StatesIn.{runIn, firstOf, stateIn, PlacedRun, PlacedAt}
+use Rattle.states.specs.StatesIn.{runIn, firstOf, stateIn, PlacedRun}
 use Rattle.states.proofs.States.{state-run}
 use Rattle.lr.specs.Kernels.{symbolBy, parentWord, parentOf, parentSymbol, kernelIn, kernelsIn, Parented, HasKernel, Comparable, KernelPlace}
 use Rattle.lr.proofs.Compare.{moved}

@@ -1,22 +1,17 @@
 -- The walk along the entries of a state that stand before a symbol.
-use Prim.Native.Nat.{ℕ, zero, suc, _+_, _-_, _*_, _≤_, _<_}
-use mathlib.Core.Path.{_≡_, refl, sym, ap, _∙_}
-use mathlib.Core.Bool.{Bool, true, false, not, _&&_}
-use mathlib.Core.List.{List, [], _∷_, map}
+use Prim.Native.Nat.{ℕ, _+_, _-_, _<_}
+use mathlib.Core.Path.{_≡_, refl, sym, _∙_}
+use mathlib.Core.Bool.{Bool, true, false}
 use native.Mathlib.Omega.{arith}
-use lib.ListN.{length}
 use lib.Dec.{eqb}
 use borrow.Author.Tests.{eq-eqb, ne-eqb}
-use Rattle.base.specs.Pick.{pick}
 use Rattle.base.specs.Loops.{firstFrom}
-use Rattle.rules.specs.Records.{Grammar, records}
+use Rattle.rules.specs.Records.{Grammar}
 use Rattle.rules.specs.Grammar.{Symbol, nonterminal, terminal, isBefore}
-use Rattle.rules.specs.States.{Entry, State}
 use Rattle.room.specs.Areas.{Room}
 use Rattle.lookahead.specs.Sets.{setAt}
 use Rattle.states.specs.StatesIn.{entryIn, PlacedRun}
 use Rattle.states.proofs.States.{set-of}
-use Rattle.states.proofs.Places.{item-fits}
 use Rattle.lr.specs.Kernels.{symbolBy, standsBefore, firstBefore, sameEntry}
 
 -- ---- a symbol by its kind

@@ -2,11 +2,12 @@
 use Prim.Native.Nat.{ℕ, _+_, _≤_, _<_}
 use mathlib.Core.Path.{_≡_}
 use mathlib.Core.List.{List, []}
-use lib.ListN.{length}
+use Rattle.base.specs.Each.{eachFrom}
 use Rattle.rules.specs.Limits.{limits}
 use Rattle.rules.specs.Records.{Grammar, records}
 use Rattle.rules.specs.Tokens.{TokenSet}
-use Rattle.rules.specs.States.{Outcome, done, refused, Expansion, addTransition}
+use Rattle.rules.specs.Grammar.{Symbol}
+use Rattle.rules.specs.States.{Outcome, done, refused, eachInTurn, Expansion, addTransition}
 use Rattle.room.specs.Areas.{Room, withEntries, withVisited, view}
 use Rattle.states.specs.StatesIn.{entryIn, firstOf, stateIn}
 use Rattle.lr.specs.declared.Built.{Built}
@@ -37,5 +38,15 @@ StillParented bytes s count (Refused why) work = Unit {0}
 
 pub record Transition (bytes : List ℕ) (kind x s count : ℕ) (work after : List ℕ) (r : Built) : Type 0 where
   pub outcome : (start : TokenSet) → expandedTo (records bytes) start (view after) s r ≡ addTransition limits (records bytes) (symbolBy kind x) (expansionIn (records bytes) start (view work) s count)
+  pub only : OnlyExpanded (view work) (view after) s
+  pub left : StillParented bytes s count r after
+
+-- ---- the symbols of a kind that are below n, and the transitions over a list of symbols in turn
+unfoldable pub symbolsBelow : ℕ → ℕ → List Symbol
+unfolding eachFrom symbolBy
+symbolsBelow kind n = eachFrom (symbolBy kind) 0 n
+
+pub record Transitions (bytes : List ℕ) (xs : List Symbol) (s count : ℕ) (work after : List ℕ) (r : Built) : Type 0 where
+  pub outcome : (start : TokenSet) → expandedTo (records bytes) start (view after) s r ≡ eachInTurn (addTransition limits (records bytes)) xs (expansionIn (records bytes) start (view work) s count)
   pub only : OnlyExpanded (view work) (view after) s
   pub left : StillParented bytes s count r after
