@@ -11,7 +11,8 @@ use borrow.Author.Tests.{leb-false}
 use Rattle.base.specs.Pick.{pick}
 use Rattle.rules.specs.Records.{Grammar}
 use Rattle.rules.specs.Grammar.{leftOf}
-use Rattle.rules.specs.Run.{Act, shift, reduce, noAct, Table, Standing, Moved, goes, ends, sideLength, shifted, reduced, ended, listFull, stackFull, stateUnder, tokenAt, moveShift, moveGoto, moveEnd, moveReduce, moveBy, move}
+use Rattle.rules.specs.Run.{Act, shift, reduce, noAct, Table, Standing, Moved, goes, ends, sideLength, shifted, reduced, ended}
+use Rattle.rules.specs.Run.{listFull, stackFull, stateUnder, tokenAt, moveShift, moveGoto, moveEnd, moveReduce, moveBy, move}
 use Rattle.rules.specs.declared.RunEnd.the-variants.{Accepted, Broken, ListFull, StackFull, StepLimit}
 
 pub record Kept (limit : ℕ) (s after : Standing ℕ) : Type 0 where

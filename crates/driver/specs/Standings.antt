@@ -1,11 +1,12 @@
 -- Where the code's run stands, in the words of `rules`, and what its moves ask.
-use Prim.Native.Nat.{ℕ, _-_, _≤_, _<_}
+use Prim.Native.Nat.{ℕ, _+_, _-_, _≤_, _<_}
 use mathlib.Core.Path.{_≡_}
 use mathlib.Core.List.{List}
 use lib.ListN.{length}
 use Rattle.base.specs.Pick.{pick}
 use Rattle.rules.specs.Records.{records}
 use Rattle.rules.specs.Grammar.{terminalCount}
+use Rattle.rules.specs.Table.{tableRecords, tableIn}
 use Rattle.rules.specs.Run.{listFull, stackFull, reduced}
 use Rattle.rules.specs.Run as run
 use Rattle.rules.specs.declared.RunEnd.the-variants.{ListFull, StackFull}
@@ -22,6 +23,11 @@ standing stack list s = record { stack = stack; depth = s .depth; list = list; l
 abbrev pub moved : List ℕ → List ℕ → Moved → run.Moved ℕ
 moved stack list (Goes s) = run.goes (standing stack list s)
 moved stack list (Ends end s) = run.ends end (standing stack list s)
+
+-- what is left of a run from a standing on; a move is a step, and none is made at the limit
+abbrev pub leftRun : List ℕ → List ℕ → List ℕ → ℕ → List ℕ → List ℕ → Standing → run.RunResult ℕ
+leftRun g t tokens limit stack list s =
+    run.runFrom (tableIn (tableRecords t)) (records g) tokens limit (limit + 1 - s .steps) (standing stack list s)
 
 -- the highest step limit
 abbrev pub maxLimit : ℕ

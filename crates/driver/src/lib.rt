@@ -21,7 +21,8 @@ fn drive_coded(
     list: &mut [u16],
 ) -> DriveAnswer
     requires { ⌜ grammarAnswer limits (now g) ≡ Coded ⌝ }
-    ensures { λ r. ⌜ droveIn r (now (stack .exit)) (now (list .exit)) ≡ driveCoded limits (now (g .entry)) Coded (now (t .entry)) (now (tokens .entry)) limit (now (stack .entry)) (now (list .entry)) ⌝ }
+    ensures { λ r. ⌜ droveIn r (now (stack .exit)) (now (list .exit))
+        ≡ driveCoded limits (now (g .entry)) Coded (now (t .entry)) (now (tokens .entry)) limit (now (stack .entry)) (now (list .entry)) ⌝ }
 {
     if t.len() % grammar::records::RECORD != 0 {
         return DriveAnswer::NoTable(0);
@@ -46,7 +47,8 @@ pub fn drive(
     stack: &mut [u16],
     list: &mut [u16],
 ) -> DriveAnswer
-    ensures { λ r. ⌜ droveIn r (now (stack .exit)) (now (list .exit)) ≡ drive limits (now (g .entry)) (now (t .entry)) (now (tokens .entry)) limit (now (stack .entry)) (now (list .entry)) ⌝ }
+    ensures { λ r. ⌜ droveIn r (now (stack .exit)) (now (list .exit))
+        ≡ drive limits (now (g .entry)) (now (t .entry)) (now (tokens .entry)) limit (now (stack .entry)) (now (list .entry)) ⌝ }
 {
     match grammar_check::check_grammar(g) {
         GrammarAnswer::Refused(why) => DriveAnswer::NoGrammar(why),

@@ -73,7 +73,8 @@ fn put_reduction(
     list: &mut [u16],
 ) -> Moved
     requires { ⌜ Moveable (now stack) s × (symbols < s .depth) ⌝ }
-    ensures { λ r. ⌜ moved (now (stack .exit)) (now (list .exit)) r ≡ putReduction p symbols to (standing (now (stack .entry)) (now (list .entry)) s) ⌝ }
+    ensures { λ r. ⌜ moved (now (stack .exit)) (now (list .exit)) r
+        ≡ putReduction p symbols to (standing (now (stack .entry)) (now (list .entry)) s) ⌝ }
 {
     let listed = s.listed;
     if list.len() <= listed {
@@ -96,7 +97,8 @@ fn put_reduction(
 // Production 0: it accepts on Eof, if just state 0 is left.
 fn move_end(g: &[u8], tokens: &[u8], s: Standing, stack: &mut [u16], list: &mut [u16]) -> Moved
     requires { ⌜ Faultless (now g) × Moveable (now stack) s ⌝ }
-    ensures { λ r. ⌜ moved (now (stack .exit)) (now (list .exit)) r ≡ moveEnd (records (now (g .entry))) (now (tokens .entry)) (standing (now (stack .entry)) (now (list .entry)) s) ⌝ }
+    ensures { λ r. ⌜ moved (now (stack .exit)) (now (list .exit)) r
+        ≡ moveEnd (records (now (g .entry))) (now (tokens .entry)) (standing (now (stack .entry)) (now (list .entry)) s) ⌝ }
 {
     if s.place != tokens.len() {
         return Moved::Ends(RunEnd::Broken, s);
@@ -131,7 +133,9 @@ fn move_reduce(
     list: &mut [u16],
 ) -> Moved
     requires { ⌜ Faultless (now g) × Ascends (now t) × Moveable (now stack) s ⌝ }
-    ensures { λ r. ⌜ moved (now (stack .exit)) (now (list .exit)) r ≡ moveReduce (tableIn (tableRecords (now (t .entry)))) (records (now (g .entry))) (now (tokens .entry)) p (standing (now (stack .entry)) (now (list .entry)) s) ⌝ }
+    ensures { λ r. ⌜ moved (now (stack .exit)) (now (list .exit)) r
+        ≡ moveReduce (tableIn (tableRecords (now (t .entry)))) (records (now (g .entry))) (now (tokens .entry)) p
+        (standing (now (stack .entry)) (now (list .entry)) s) ⌝ }
 {
     let production = p as usize;
     if production == 0 {
@@ -165,7 +169,9 @@ pub fn step(
     list: &mut [u16],
 ) -> Moved
     requires { ⌜ Runnable (now g) (now t) n × Stands limit (now stack) s ⌝ }
-    ensures { λ r. ⌜ moved (now (stack .exit)) (now (list .exit)) r ≡ move (tableIn (tableRecords (now (t .entry)))) (records (now (g .entry))) (now (tokens .entry)) limit (standing (now (stack .entry)) (now (list .entry)) s) ⌝ }
+    ensures { λ r. ⌜ moved (now (stack .exit)) (now (list .exit)) r
+        ≡ move (tableIn (tableRecords (now (t .entry)))) (records (now (g .entry))) (now (tokens .entry)) limit
+        (standing (now (stack .entry)) (now (list .entry)) s) ⌝ }
 {
     let token = token_at(tokens, n, s.place);
     let state = state_at(stack, s.depth - 1);

@@ -4,15 +4,15 @@ use crate::moves::Standing;
 use rules::RunAnswer;
 use rules::RunEnd;
 ghost use mathlib.Core.Path.{_≡_};
-ghost use Prim.Native.Nat.{_+_, _-_, _<_};
+ghost use Prim.Native.Nat.{_<_};
 ghost use lib.ListN.{length};
 ghost use Rattle.rules.specs.Records.{records};
 ghost use Rattle.rules.specs.Table.{tableRecords, tableIn};
-ghost use Rattle.rules.specs.Run.{runFrom, run};
+ghost use Rattle.rules.specs.Run.{run};
 ghost use Rattle.rules.specs.Drive.{firstNoToken};
 ghost use Rattle.grammar.specs.Asked.{Faultless};
 ghost use Rattle.record.specs.Search.{Ascends};
-ghost use Rattle.driver.specs.Standings.{Stands, Runnable, standing};
+ghost use Rattle.driver.specs.Standings.{Stands, Runnable, leftRun};
 ghost use Rattle.driver.specs.Results.{ranIn, noToken};
 
 // The token at place i is not below n.
@@ -49,7 +49,8 @@ pub fn run_from(
     list: &mut [u16],
 ) -> RunAnswer
     requires { ⌜ Runnable (now g) (now t) n × Stands limit (now stack) s ⌝ }
-    ensures { λ r. ⌜ ranIn r (now (stack .exit)) (now (list .exit)) ≡ runFrom (tableIn (tableRecords (now (t .entry)))) (records (now (g .entry))) (now (tokens .entry)) limit (limit + 1 - s .steps) (standing (now (stack .entry)) (now (list .entry)) s) ⌝ }
+    ensures { λ r. ⌜ ranIn r (now (stack .exit)) (now (list .exit))
+        ≡ leftRun (now (g .entry)) (now (t .entry)) (now (tokens .entry)) limit (now (stack .entry)) (now (list .entry)) s ⌝ }
 {
     let mut here = s;
     loop {
@@ -79,7 +80,9 @@ pub fn run(
     list: &mut [u16],
 ) -> RunAnswer
     requires { ⌜ Faultless (now g) × Ascends (now t) ⌝ }
-    ensures { λ r. ⌜ ranIn r (now (stack .exit)) (now (list .exit)) ≡ run (tableIn (tableRecords (now (t .entry)))) (records (now (g .entry))) (now (tokens .entry)) limit (now (stack .entry)) (now (list .entry)) ⌝ }
+    ensures { λ r. ⌜ ranIn r (now (stack .exit)) (now (list .exit))
+        ≡ run (tableIn (tableRecords (now (t .entry)))) (records (now (g .entry)))
+        (now (tokens .entry)) limit (now (stack .entry)) (now (list .entry)) ⌝ }
 {
     if stack.len() == 0 {
         return RunAnswer {

@@ -1,19 +1,19 @@
 -- `driver::runs::run_from` meets its contract. The loop's invariant: what is left of the run gives the same answer. The measure is what is left of the limit.
-use Prim.Native.Nat.{_+_, _-_}
+use Prim.Native.Nat.{_-_}
 use mathlib.Core.Path.{_≡_}
 use lib.ListN.{length}
 use borrow.Author.Needs.{needs}
-use Rattle.rules.specs.Records.{records}
-use Rattle.rules.specs.Run.{runFrom}
-use Rattle.rules.specs.Table.{tableRecords, tableIn}
-use Rattle.driver.specs.Standings.{Stands, standing}
+use Rattle.driver.specs.Standings.{Stands, leftRun}
 use Rattle.driver.proofs.Running.{turn-stands, turn-less, turn-left, run-ends}
 use Rattle.driver.proofs.runs.run_from.Statement.{statement}
 use Rattle.driver.proofs.runs.run_from.Tie as tie
 
 abbrev Inv-loop : tie.InvT-loop
 Inv-loop g t tokens n limit stack₀ list₀ here₀ stack list here =
-    Stands limit stack here × (length stack ≡ length stack₀) × (length list ≡ length list₀) × (runFrom (tableIn (tableRecords t)) (records g) tokens limit (limit + 1 - here .steps) (standing stack list here) ≡ runFrom (tableIn (tableRecords t)) (records g) tokens limit (limit + 1 - here₀ .steps) (standing stack₀ list₀ here₀))
+    Stands limit stack here
+    × (length stack ≡ length stack₀)
+    × (length list ≡ length list₀)
+    × (leftRun g t tokens limit stack list here ≡ leftRun g t tokens limit stack₀ list₀ here₀)
 
 abbrev μ-loop : tie.MeasureT-loop
 μ-loop g t tokens n limit stack₀ list₀ here₀ stack list here = limit - here .steps
