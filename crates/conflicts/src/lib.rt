@@ -52,7 +52,7 @@ fn count_held(g: &[u8], t: usize, k: usize, first: usize, end: usize, work: &[u6
 }
 
 // How many of the shifted terminals are in the set of the entry at place k.
-fn held_shifts(g: &[u8], n: usize, k: usize, first: usize, end: usize, work: &[u64]) -> usize
+pub fn held_shifts(g: &[u8], n: usize, k: usize, first: usize, end: usize, work: &[u64]) -> usize
     requires { ⌜ Readable (now g) (now work) first end × (k < end) × FewTerminals n × (n ≡ terminalCount (records (now g))) ⌝ }
     ensures { λ r. ⌜ (r ≡ heldShiftsIn (records (now (g .entry))) (view (now (work .entry))) first end k) × (r ≤ n) ⌝ }
 {

@@ -23,13 +23,13 @@ use Rattle.traces.proofs.Whole.{action-goes, back-closed, back-shifted}
 use Rattle.lane_table.specs.Actions.{actionOf, ActionFits, Tracing, tableOf, ActionTraced}
 use Rattle.lane_table.specs.Changes.{tokensEntered, handEntered}
 use Rattle.lane_table.specs.Clears.{VisitsCleared}
-use Rattle.lane_table.specs.Traces.{firstsOf, statesOf, traceOf, OnlyLanes, Traceable, ShiftTraced, CloseTraced}
+use Rattle.lane_table.specs.Traces.{firstsFor, statesOf, traceOf, OnlyLanes, Traceable, ShiftTraced, CloseTraced}
 use Rattle.lane_table.specs.declared.Lanes.{Lanes}
 use Rattle.lane_table.proofs.Cells.{entered-by}
 use Rattle.lane_table.proofs.Clears.{cleared-trace, cleared-only}
 use Rattle.lane_table.proofs.Frames.{only-both, hand-enters, states-kept, firsts-kept}
 use Rattle.lane_table.proofs.Going.{ready-kept}
-use Rattle.lane_table.proofs.Rows.{entered-by-hand}
+use Rattle.lane_table.proofs.Changed.{entered-by-hand}
 
 -- ---- a shift
 module _ (bytes : List ℕ) (lanes : Lanes) (c s t hand : ℕ) (w : List ℕ) (p q : Room) (fits : LongEnough w) (state : s < lanes .states) (few : lanes .states ≤ maxStates)
@@ -57,7 +57,7 @@ module _ (bytes : List ℕ) (lanes : Lanes) (c s i hand : ℕ) (w w₁ : List �
   pub reduce-ready : Traceable bytes lanes c s i q
   reduce-ready = ready-kept bytes lanes c s i (view w) q begun-only ready
 
-  begins : traceOf lanes q ≡ traceBegun (records bytes) (firstsOf bytes (view w)) (statesOf lanes (view w)) s c i (tableOf lanes (view w))
+  begins : traceOf lanes q ≡ traceBegun (records bytes) (firstsFor bytes (view w)) (statesOf lanes (view w)) s c i (tableOf lanes (view w))
   begins =
       ap (traceOf lanes) entered
       ∙ entered-by-hand (view w₁) (lanes .states) (lanes .columns) s c (ready .state) (ready .placed .few) (ready .column) (ready .narrow) (view-lengths w₁ (omega arith)) 0
@@ -67,23 +67,23 @@ module _ (bytes : List ℕ) (lanes : Lanes) (c s i hand : ℕ) (w w₁ : List �
   states : statesOf lanes q ≡ statesOf lanes (view w)
   states = states-kept (view w) q begun-only (length (records bytes)) (lanes .states) (ready .placed)
 
-  firsts : firstsOf bytes q ≡ firstsOf bytes (view w)
+  firsts : firstsFor bytes q ≡ firstsFor bytes (view w)
   firsts = firsts-kept (view w) q begun-only (records bytes) (ready .clean)
 
   module _ (z : Room) (b : Bool) (starts : b ≡ atStart (records bytes) i) where
     pub reduce-closed : b ≡ true → CloseTraced bytes lanes c s i q z → ActionTraced bytes lanes c s (reduce i) (view w) z
     reduce-closed e went = record {
       table =
-          ap (λ (x : Trace). x .table) ((rw (firsts, states, begins) at (went .trace)) ∙ sym (back-closed (records bytes) (firstsOf bytes (view w)) (statesOf lanes (view w)) c s i _ (sym starts ∙ e)))
-          ∙ sym (action-goes (records bytes) (firstsOf bytes (view w)) (statesOf lanes (view w)) s c i (tableOf lanes (view w)));
+          ap (λ (x : Trace). x .table) ((rw (firsts, states, begins) at (went .trace)) ∙ sym (back-closed (records bytes) (firstsFor bytes (view w)) (statesOf lanes (view w)) c s i _ (sym starts ∙ e)))
+          ∙ sym (action-goes (records bytes) (firstsFor bytes (view w)) (statesOf lanes (view w)) s c i (tableOf lanes (view w)));
       only = only-both (view w) q z begun-only (went .only);
     }
 
     pub reduce-shifted : b ≡ false → ShiftTraced bytes lanes c s i q z → ActionTraced bytes lanes c s (reduce i) (view w) z
     reduce-shifted e went = record {
       table =
-          ap (λ (x : Trace). x .table) ((rw (firsts, states, begins) at (went .trace)) ∙ sym (back-shifted (records bytes) (firstsOf bytes (view w)) (statesOf lanes (view w)) c s i _ (sym starts ∙ e)))
-          ∙ sym (action-goes (records bytes) (firstsOf bytes (view w)) (statesOf lanes (view w)) s c i (tableOf lanes (view w)));
+          ap (λ (x : Trace). x .table) ((rw (firsts, states, begins) at (went .trace)) ∙ sym (back-shifted (records bytes) (firstsFor bytes (view w)) (statesOf lanes (view w)) c s i _ (sym starts ∙ e)))
+          ∙ sym (action-goes (records bytes) (firstsFor bytes (view w)) (statesOf lanes (view w)) s c i (tableOf lanes (view w)));
       only = only-both (view w) q z begun-only (went .only);
     }
 

@@ -13,7 +13,7 @@ use Rattle.room.specs.Areas.{Room}
 use Rattle.states.proofs.States.{states-length}
 use Rattle.lane_table.specs.Actions.{actionOf, actionAt, actionsIn, ActionFits, Tracing, tableOf, Tabled, ActionTraced, tracedFrom, ActionsTraced, LaneTableBuilt}
 use Rattle.lane_table.specs.Clears.{emptyRow, RowsCleared}
-use Rattle.lane_table.specs.Traces.{firstsOf, statesOf, OnlyLanes}
+use Rattle.lane_table.specs.Traces.{firstsFor, statesOf, OnlyLanes}
 use Rattle.lane_table.specs.declared.Lanes.{Lanes}
 use Rattle.lane_table.proofs.Clears.{empty-table}
 use Rattle.lane_table.proofs.Frames.{only-none, only-both, placed-kept, states-kept, firsts-kept}
@@ -43,7 +43,7 @@ pub record Acting (bytes : List ℕ) (lanes : Lanes) (s : ℕ) (v q : Room) : Ty
   pub tracing : Tracing bytes lanes s q
   pub only : OnlyLanes v q
   pub same-states : statesOf lanes q ≡ statesOf lanes v
-  pub same-firsts : firstsOf bytes q ≡ firstsOf bytes v
+  pub same-firsts : firstsFor bytes q ≡ firstsFor bytes v
 
 pub acting-none : (bytes : List ℕ) (lanes : Lanes) (s : ℕ) (v : Room) → Tracing bytes lanes s v → Acting bytes lanes s v v
 acting-none bytes lanes s v tracing = record { tracing = tracing; only = only-none v; same-states = refl; same-firsts = refl }
@@ -65,7 +65,7 @@ module _ (bytes : List ℕ) (lanes : Lanes) (s : ℕ) (v q : Room) (acting : Act
     unfolding actionsRest traceActions
     actions-turn z t acted left =
         let e : a ≡ getD (v .actions) c 0 = read ∙ ap (λ (l : List ℕ). getD l c 0) (actions-same v q (acting .only)) in
-        let f : tableOf lanes z ≡ traceAction (records bytes) (firstsOf bytes v) (statesOf lanes v) s c (actionAt v c) (tableOf lanes q) = rw (acting .same-firsts, acting .same-states, e) at (acted .table) in
+        let f : tableOf lanes z ≡ traceAction (records bytes) (firstsFor bytes v) (statesOf lanes v) s c (actionAt v c) (tableOf lanes q) = rw (acting .same-firsts, acting .same-states, e) at (acted .table) in
         rw (f, add-one) (rw (each-more (actionAt v) (lanes .columns) c here, add-one) at left)
 
   pub actions-end : (c : ℕ) → lanes .columns ≤ c → actionsRest bytes lanes s v c (tableOf lanes q) ≡ actionsRest bytes lanes s v 0 (tableOf lanes v) → ActionsTraced bytes lanes s v q
@@ -89,7 +89,7 @@ module _ (bytes : List ℕ) (lanes : Lanes) (s : ℕ) (v q : Room) (tracing : Tr
   unfolding laneTable
   built z acted =
       let states : statesOf lanes q ≡ statesOf lanes v = states-kept v q (cleared .only) (length (records bytes)) (lanes .states) (tracing .placed) in
-      let firsts : firstsOf bytes q ≡ firstsOf bytes v = firsts-kept v q (cleared .only) (records bytes) (tracing .clean) in
+      let firsts : firstsFor bytes q ≡ firstsFor bytes v = firsts-kept v q (cleared .only) (records bytes) (tracing .clean) in
       let empty : tableOf lanes q ≡ replicate (lanes .states) (emptyRow (lanes .columns)) = empty-table (lanes .columns) (lanes .states) v q cleared in
       record {
         table = rw (states-length v (lanes .states), action-count) (rw (firsts, states, actions, empty) at (acted .table));

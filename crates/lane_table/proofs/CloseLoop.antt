@@ -26,12 +26,12 @@ use Rattle.states.proofs.States.{state-at, first-same}
 use Rattle.traces.specs.Whole.{unClosed, goneBack, overItem}
 use Rattle.traces.proofs.Whole.{close-goes, close-seen, back-closed, back-shifted, item-goes, item-stops}
 use Rattle.lane_table.specs.Changes.{startEntered, pastEntered}
-use Rattle.lane_table.specs.Traces.{firstsOf, statesOf, traceOf, OnlyLanes, Traceable, ShiftTraced, CloseTraced}
+use Rattle.lane_table.specs.Traces.{firstsFor, statesOf, traceOf, OnlyLanes, Traceable, ShiftTraced, CloseTraced}
 use Rattle.lane_table.specs.declared.Lanes.{Lanes}
 use Rattle.lane_table.proofs.Frames.{firsts-same, entry-kept, only-none, only-both, only-visit, only-start, only-past, states-kept, firsts-kept, sized-kept}
 use Rattle.lane_table.proofs.Going.{Going, past-ready}
 use Rattle.lane_table.proofs.Pairs.{small, was, below, as-long, recorded, visited-now}
-use Rattle.lane_table.proofs.Rows.{start-trace, entered-by-hand}
+use Rattle.lane_table.proofs.Changed.{start-trace, entered-by-hand}
 
 -- the items before nonterminal a of the entries from place k to the end
 unfoldable pub itemsUpTo : Grammar → ℕ → Room → ℕ → ℕ → List ℕ
@@ -39,7 +39,7 @@ itemsUpTo g a r k end = keep (isBefore g (nonterminal a)) (map (λ (e : Entry). 
 
 -- what is done at an item, where v is the room in which the loop began
 abbrev step : List ℕ → Lanes → ℕ → ℕ → Room → ℕ → Trace → Trace
-step bytes lanes c s v = overItem (records bytes) (firstsOf bytes v) (statesOf lanes v) c s
+step bytes lanes c s v = overItem (records bytes) (firstsFor bytes v) (statesOf lanes v) c s
 
 -- the trace over the entries from place k to the end
 unfoldable pub closeRest : List ℕ → Lanes → ℕ → ℕ → ℕ → ℕ → Room → ℕ → Trace → Trace
@@ -107,44 +107,44 @@ module _ (bytes : List ℕ) (lanes : Lanes) (c s i a first end : ℕ) (v q : Roo
   pub close-passed : not d ≡ true → closeRest bytes lanes c s a end v (k + 1) (traceOf lanes q) ≡ t
   close-passed e = turn (traceOf lanes q) (rw (not-true d e))
 
-  module _ (u : Room) (x : Bool) (before : not d ≡ false) (enters : u ≡ pastEntered (records bytes) (firstsOf bytes q) s c j q) (empty : x ≡ emptyPast (records bytes) (firstsOf bytes q) j) where
+  module _ (u : Room) (x : Bool) (before : not d ≡ false) (enters : u ≡ pastEntered (records bytes) (firstsFor bytes q) s c j q) (empty : x ≡ emptyPast (records bytes) (firstsFor bytes q) j) where
     only : OnlyLanes q u
-    only = only-past q u (records bytes) (firstsOf bytes q) s c j enters
+    only = only-past q u (records bytes) (firstsFor bytes q) s c j enters
 
-    entered : traceOf lanes u ≡ onTable (enter s c (tokensPast (records bytes) (firstsOf bytes v) j)) (traceOf lanes q)
+    entered : traceOf lanes u ≡ onTable (enter s c (tokensPast (records bytes) (firstsFor bytes v) j)) (traceOf lanes q)
     entered =
         ap (traceOf lanes) enters
-        ∙ entered-by-hand q (lanes .states) (lanes .columns) s c (going .ready .state) (going .ready .placed .few) (going .ready .column) (going .ready .narrow) (going .sized) (tokensPast (records bytes) (firstsOf bytes q) j)
+        ∙ entered-by-hand q (lanes .states) (lanes .columns) s c (going .ready .state) (going .ready .placed .few) (going .ready .column) (going .ready .narrow) (going .sized) (tokensPast (records bytes) (firstsFor bytes q) j)
         ∙ ap (λ (sets : Sets). onTable (enter s c (tokensPast (records bytes) sets j)) (traceOf lanes q)) (going .same-firsts)
 
-    may : emptyPast (records bytes) (firstsOf bytes v) j ≡ x
+    may : emptyPast (records bytes) (firstsFor bytes v) j ≡ x
     may = ap (λ (sets : Sets). emptyPast (records bytes) sets j) (sym (going .same-firsts)) ∙ sym empty
 
     over : (y : Trace) → y ≡ step bytes lanes c s v j (traceOf lanes q) → closeRest bytes lanes c s a end v (k + 1) y ≡ t
     over y e = turn y (rw (not-false d before) e)
 
     pub close-entered : not x ≡ true → closeRest bytes lanes c s a end v (k + 1) (traceOf lanes u) ≡ t
-    close-entered e = over (traceOf lanes u) (entered ∙ sym (item-stops (records bytes) (firstsOf bytes v) (statesOf lanes v) c s j (traceOf lanes q) (may ∙ not-true x e)))
+    close-entered e = over (traceOf lanes u) (entered ∙ sym (item-stops (records bytes) (firstsFor bytes v) (statesOf lanes v) c s j (traceOf lanes q) (may ∙ not-true x e)))
 
     module _ (z : Room) (b : Bool) (goes : not x ≡ false) (starts : b ≡ atStart (records bytes) j) where
-      firsts : firstsOf bytes u ≡ firstsOf bytes v
+      firsts : firstsFor bytes u ≡ firstsFor bytes v
       firsts = firsts-kept q u only (records bytes) (going .ready .clean) ∙ going .same-firsts
 
       states : statesOf lanes u ≡ statesOf lanes v
       states = states-kept q u only (length (records bytes)) (lanes .states) (going .ready .placed) ∙ going .same-states
 
-      onward : goneBack (records bytes) (firstsOf bytes v) (statesOf lanes v) c s j (traceOf lanes u) ≡ step bytes lanes c s v j (traceOf lanes q)
-      onward = rw entered (sym (item-goes (records bytes) (firstsOf bytes v) (statesOf lanes v) c s j (traceOf lanes q) (may ∙ not-false x goes)))
+      onward : goneBack (records bytes) (firstsFor bytes v) (statesOf lanes v) c s j (traceOf lanes u) ≡ step bytes lanes c s v j (traceOf lanes q)
+      onward = rw entered (sym (item-goes (records bytes) (firstsFor bytes v) (statesOf lanes v) c s j (traceOf lanes q) (may ∙ not-false x goes)))
 
       pub close-closed : b ≡ true → CloseTraced bytes lanes c s j u z → closeRest bytes lanes c s a end v (k + 1) (traceOf lanes z) ≡ t
       close-closed e went =
           over (traceOf lanes z)
-          ((rw (firsts, states) at (went .trace)) ∙ sym (back-closed (records bytes) (firstsOf bytes v) (statesOf lanes v) c s j (traceOf lanes u) (sym starts ∙ e)) ∙ onward)
+          ((rw (firsts, states) at (went .trace)) ∙ sym (back-closed (records bytes) (firstsFor bytes v) (statesOf lanes v) c s j (traceOf lanes u) (sym starts ∙ e)) ∙ onward)
 
       pub close-shifted : b ≡ false → ShiftTraced bytes lanes c s j u z → closeRest bytes lanes c s a end v (k + 1) (traceOf lanes z) ≡ t
       close-shifted e went =
           over (traceOf lanes z)
-          ((rw (firsts, states) at (went .trace)) ∙ sym (back-shifted (records bytes) (firstsOf bytes v) (statesOf lanes v) c s j (traceOf lanes u) (sym starts ∙ e)) ∙ onward)
+          ((rw (firsts, states) at (went .trace)) ∙ sym (back-shifted (records bytes) (firstsFor bytes v) (statesOf lanes v) c s j (traceOf lanes u) (sym starts ∙ e)) ∙ onward)
 
 -- ---- the end
 items-whole : (g : Grammar) (count s a first end : ℕ) (v : Room) → s < count → first ≡ firstOf v s → end ≡ firstOf v (s + 1) → itemsUpTo g a v first end ≡ itemsBefore g (statesIn v count) s a
@@ -154,7 +154,7 @@ items-whole g count s a first end v h begins ends = rw (state-at v count s h, be
 module _ (bytes : List ℕ) (lanes : Lanes) (c s i : ℕ) (w : List ℕ) (b : Bool) (ready : Traceable bytes lanes c s i (view w)) (tested : b ≡ has (visitedIn (view w) s) i) where
   pub close-stops : b ≡ true → CloseTraced bytes lanes c s i (view w) (view w)
   close-stops e = record {
-    trace = sym (close-seen (records bytes) (firstsOf bytes (view w)) (statesOf lanes (view w)) c s i (traceOf lanes (view w)) (was bytes lanes c s i w ready b tested ∙ e));
+    trace = sym (close-seen (records bytes) (firstsFor bytes (view w)) (statesOf lanes (view w)) c s i (traceOf lanes (view w)) (was bytes lanes c s i w ready b tested ∙ e));
     only = only-none (view w);
   }
 
@@ -169,14 +169,14 @@ module _ (bytes : List ℕ) (lanes : Lanes) (c s i : ℕ) (w : List ℕ) (b : Bo
         ∙ ap (enterStart (records bytes) s c i) (visited-now bytes lanes c s i w ready y fits visits)
 
     module _ (a first end k : ℕ) (here : AtEntry bytes lanes c s i a first end v z k) where
-      whole : closeRest bytes lanes c s a end v first (traceOf lanes v) ≡ unClosed (records bytes) (firstsOf bytes (view w)) (statesOf lanes (view w)) c s i (traceOf lanes (view w))
+      whole : closeRest bytes lanes c s a end v first (traceOf lanes v) ≡ unClosed (records bytes) (firstsFor bytes (view w)) (statesOf lanes (view w)) c s i (traceOf lanes (view w))
       unfolding closeRest
       whole =
           let states : statesOf lanes v ≡ statesOf lanes (view w) = states-kept (view w) v begun-only (length (records bytes)) (lanes .states) (ready .placed) in
-          let firsts : firstsOf bytes v ≡ firstsOf bytes (view w) = firsts-kept (view w) v begun-only (records bytes) (ready .clean) in
+          let firsts : firstsFor bytes v ≡ firstsFor bytes (view w) = firsts-kept (view w) v begun-only (records bytes) (ready .clean) in
           let items : itemsUpTo (records bytes) a v first end ≡ itemsBefore (records bytes) (statesOf lanes (view w)) s (at (records bytes) i .symbol) = rw (← states, ← here .named) (items-whole (records bytes) (lanes .states) s a first end v (ready .state) (here .begins) (here .ends)) in
           rw (items, firsts, states, begun)
-          (sym (close-goes (records bytes) (firstsOf bytes (view w)) (statesOf lanes (view w)) c s i (traceOf lanes (view w)) (recorded bytes lanes c s i w ready) (below bytes lanes c s i w ready) (small bytes lanes c s i w ready) (as-long bytes lanes c s i w ready) (was bytes lanes c s i w ready b tested ∙ new)))
+          (sym (close-goes (records bytes) (firstsFor bytes (view w)) (statesOf lanes (view w)) c s i (traceOf lanes (view w)) (recorded bytes lanes c s i w ready) (below bytes lanes c s i w ready) (small bytes lanes c s i w ready) (as-long bytes lanes c s i w ready) (was bytes lanes c s i w ready b tested ∙ new)))
 
       ended : (t : Trace) → end ≤ k → closeRest bytes lanes c s a end v k (traceOf lanes z) ≡ t → traceOf lanes z ≡ t
       unfolding closeRest itemsUpTo

@@ -22,10 +22,10 @@ use Rattle.traces.specs.Whole.{pairsLeft}
 use Rattle.traces.proofs.Left.{shift-left, close-left, visit-left, table-left}
 use Rattle.lane_table.specs.declared.Lanes.{Lanes}
 use Rattle.lane_table.specs.Changes.{startEntered, pastEntered}
-use Rattle.lane_table.specs.Traces.{firstsOf, statesOf, traceOf, leftIn, OnlyLanes, Traceable, ShiftTraced, CloseTraced}
+use Rattle.lane_table.specs.Traces.{firstsFor, statesOf, traceOf, leftIn, OnlyLanes, Traceable, ShiftTraced, CloseTraced}
 use Rattle.lane_table.proofs.Frames.{only-none, only-both, only-visit, only-link, only-start, only-past, placed-kept, states-kept, firsts-kept, sized-kept}
 use Rattle.lane_table.proofs.Pairs.{small, was, visited-now}
-use Rattle.lane_table.proofs.Rows.{visited-length, linked-trace, entered-by-hand, start-trace}
+use Rattle.lane_table.proofs.Changed.{visited-length, linked-trace, entered-by-hand, start-trace}
 
 -- the room at hand in the trace from item i in state s
 pub record Going (bytes : List ℕ) (lanes : Lanes) (c s i : ℕ) (v q : Room) : Type 0 where
@@ -33,7 +33,7 @@ pub record Going (bytes : List ℕ) (lanes : Lanes) (c s i : ℕ) (v q : Room) :
   pub sized : Lengths q
   pub only : OnlyLanes v q
   pub same-states : statesOf lanes q ≡ statesOf lanes v
-  pub same-firsts : firstsOf bytes q ≡ firstsOf bytes v
+  pub same-firsts : firstsFor bytes q ≡ firstsFor bytes v
   pub fewer : leftIn bytes lanes q ≤ leftIn bytes lanes v
 
 -- what is ready stays ready
@@ -81,11 +81,11 @@ module _ (bytes : List ℕ) (lanes : Lanes) (c s i : ℕ) (q : Room) (ready : Tr
 module _ (bytes : List ℕ) (lanes : Lanes) (c s i : ℕ) (q z : Room) (low : s < lanes .states) where
   shifted-left : ShiftTraced bytes lanes c s i q z → leftIn bytes lanes z ≤ leftIn bytes lanes q
   shifted-left went =
-      rw (went .trace) (shift-left (records bytes) (firstsOf bytes q) (statesOf lanes q) c (lanes .states) (states-length q (lanes .states)) s i (traceOf lanes q) low (visited-length q (lanes .states)))
+      rw (went .trace) (shift-left (records bytes) (firstsFor bytes q) (statesOf lanes q) c (lanes .states) (states-length q (lanes .states)) s i (traceOf lanes q) low (visited-length q (lanes .states)))
 
   closed-left : CloseTraced bytes lanes c s i q z → leftIn bytes lanes z ≤ leftIn bytes lanes q
   closed-left went =
-      rw (went .trace) (close-left (records bytes) (firstsOf bytes q) (statesOf lanes q) c (lanes .states) (states-length q (lanes .states)) s i (traceOf lanes q) low (visited-length q (lanes .states)))
+      rw (went .trace) (close-left (records bytes) (firstsFor bytes q) (statesOf lanes q) c (lanes .states) (states-length q (lanes .states)) s i (traceOf lanes q) low (visited-length q (lanes .states)))
 
 -- ---- the loops begin
 module _ (bytes : List ℕ) (lanes : Lanes) (c s i : ℕ) where
@@ -178,7 +178,7 @@ module _ (bytes : List ℕ) (lanes : Lanes) (c s i t : ℕ) (w : List ℕ) (b : 
   falls : leftIn bytes lanes v < t
   falls =
       rw (visited-now bytes lanes c s i w ready v fits visits)
-      (omega (arith, visit-left (records bytes) (firstsOf bytes (view w)) (statesOf lanes (view w)) 0 (lanes .states) (states-length (view w) (lanes .states)) s i (traceOf lanes (view w)) (ready .state) (visited-length (view w) (lanes .states)) (small bytes lanes c s i w ready) (was bytes lanes c s i w ready b tested ∙ new)))
+      (omega (arith, visit-left (records bytes) (firstsFor bytes (view w)) (statesOf lanes (view w)) 0 (lanes .states) (states-length (view w) (lanes .states)) s i (traceOf lanes (view w)) (ready .state) (visited-length (view w) (lanes .states)) (small bytes lanes c s i w ready) (was bytes lanes c s i w ready b tested ∙ new)))
 
   -- in the loop over predecessors, one of which was linked
   pub linked-falls : (q u : Room) (p : ℕ) → Going bytes lanes c s i v q → p < lanes .states → u ≡ successorAdded p s q → leftIn bytes lanes u < t

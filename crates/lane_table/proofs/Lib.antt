@@ -1,12 +1,13 @@
 pub mod Acts
 pub mod Builds
 pub mod Cells
+pub mod Changed
 pub mod Clears
 pub mod CloseLoop
+pub mod Columns
 pub mod Frames
 pub mod Going
 pub mod Items
 pub mod Leads
 pub mod Pairs
-pub mod Rows
 pub mod ShiftLoop

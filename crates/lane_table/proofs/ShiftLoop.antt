@@ -23,19 +23,19 @@ use Rattle.states.proofs.States.{state-at, states-length}
 use Rattle.traces.specs.Whole.{unShifted, unClosed, overPredecessor}
 use Rattle.traces.proofs.Whole.{shift-goes, shift-seen, back-closed, back-shifted, predecessor-goes}
 use Rattle.lane_table.specs.Graph.{leadsTo, precedes, symbolAt}
-use Rattle.lane_table.specs.Traces.{firstsOf, statesOf, traceOf, Traceable, ShiftTraced, CloseTraced}
+use Rattle.lane_table.specs.Traces.{firstsFor, statesOf, traceOf, Traceable, ShiftTraced, CloseTraced}
 use Rattle.lane_table.specs.declared.Lanes.{Lanes}
 use Rattle.lane_table.proofs.Frames.{only-none, only-both, only-visit, only-link, states-kept}
 use Rattle.lane_table.proofs.Going.{Going}
 use Rattle.lane_table.proofs.Pairs.{small, was, below, as-long, recorded, visited-now}
-use Rattle.lane_table.proofs.Rows.{linked-trace}
+use Rattle.lane_table.proofs.Changed.{linked-trace}
 
 -- p is a predecessor of s over the symbol of record i, and what is done there, where v is the room in which the loop began
 abbrev before : List ℕ → Lanes → ℕ → ℕ → Room → ℕ → Bool
 before bytes lanes s i v = precedes (records bytes) (statesOf lanes v) s (symbolAt bytes i)
 
 abbrev step : List ℕ → Lanes → ℕ → ℕ → ℕ → Room → ℕ → Trace → Trace
-step bytes lanes c s i v = overPredecessor (records bytes) (firstsOf bytes v) (statesOf lanes v) c s i
+step bytes lanes c s i v = overPredecessor (records bytes) (firstsFor bytes v) (statesOf lanes v) c s i
 
 -- the trace over the predecessors from `next` on
 unfoldable pub shiftRest : List ℕ → Lanes → ℕ → ℕ → ℕ → Room → ℕ → Trace → Trace
@@ -69,8 +69,8 @@ module _ (bytes : List ℕ) (lanes : Lanes) (c s i next : ℕ) (v q : Room) (t :
         ap (traceOf lanes) links
         ∙ linked-trace q (lanes .states) (lanes .columns) next s here (going .ready .placed .few) (omega (arith, going .ready .state, going .ready .placed .few)) (going .sized)
 
-    firsts : firstsOf bytes u ≡ firstsOf bytes v
-    firsts = ap (firstsOf bytes) links ∙ going .same-firsts
+    firsts : firstsFor bytes u ≡ firstsFor bytes v
+    firsts = ap (firstsFor bytes) links ∙ going .same-firsts
 
     states : statesOf lanes u ≡ statesOf lanes v
     states = states-kept q u (only-link q u next s links) (length (records bytes)) (lanes .states) (going .ready .placed) ∙ going .same-states
@@ -81,12 +81,12 @@ module _ (bytes : List ℕ) (lanes : Lanes) (c s i next : ℕ) (v q : Room) (t :
     pub shift-closed : b ≡ true → CloseTraced bytes lanes c next (i - 1) u z → shiftRest bytes lanes c s i v (next + 1) (traceOf lanes z) ≡ t
     shift-closed e went =
         over (traceOf lanes z)
-        ((rw (firsts, states, linked) at (went .trace)) ∙ over-closed (records bytes) (firstsOf bytes v) (statesOf lanes v) c s i next (traceOf lanes q) b starts e)
+        ((rw (firsts, states, linked) at (went .trace)) ∙ over-closed (records bytes) (firstsFor bytes v) (statesOf lanes v) c s i next (traceOf lanes q) b starts e)
 
     pub shift-shifted : b ≡ false → ShiftTraced bytes lanes c next (i - 1) u z → shiftRest bytes lanes c s i v (next + 1) (traceOf lanes z) ≡ t
     shift-shifted e went =
         over (traceOf lanes z)
-        ((rw (firsts, states, linked) at (went .trace)) ∙ over-shifted (records bytes) (firstsOf bytes v) (statesOf lanes v) c s i next (traceOf lanes q) b starts e)
+        ((rw (firsts, states, linked) at (went .trace)) ∙ over-shifted (records bytes) (firstsFor bytes v) (statesOf lanes v) c s i next (traceOf lanes q) b starts e)
 
 -- ---- the end
 kept-predecessors : (g : Grammar) (states : List State) (s i count : ℕ) → length states ≡ count → kept (precedes g states s (symbolOf (at g i))) count 0 ≡ predecessors g states s (symbolOf (at g i))
@@ -96,18 +96,18 @@ kept-predecessors g states s i count e = kept-start (precedes g states s (symbol
 module _ (bytes : List ℕ) (lanes : Lanes) (c s i : ℕ) (w : List ℕ) (b : Bool) (ready : Traceable bytes lanes c s i (view w)) (tested : b ≡ has (visitedIn (view w) s) i) where
   pub shift-stops : b ≡ true → ShiftTraced bytes lanes c s i (view w) (view w)
   shift-stops e = record {
-    trace = sym (shift-seen (records bytes) (firstsOf bytes (view w)) (statesOf lanes (view w)) c s i (traceOf lanes (view w)) (was bytes lanes c s i w ready b tested ∙ e));
+    trace = sym (shift-seen (records bytes) (firstsFor bytes (view w)) (statesOf lanes (view w)) c s i (traceOf lanes (view w)) (was bytes lanes c s i w ready b tested ∙ e));
     only = only-none (view w);
   }
 
   module _ (v z : Room) (fits : LongEnough w) (new : b ≡ false) (visits : v ≡ itemVisited s i (view w)) where
-    whole : shiftRest bytes lanes c s i v 0 (traceOf lanes v) ≡ unShifted (records bytes) (firstsOf bytes (view w)) (statesOf lanes (view w)) c s i (traceOf lanes (view w))
+    whole : shiftRest bytes lanes c s i v 0 (traceOf lanes v) ≡ unShifted (records bytes) (firstsFor bytes (view w)) (statesOf lanes (view w)) c s i (traceOf lanes (view w))
     unfolding shiftRest
     whole =
         let states : statesOf lanes v ≡ statesOf lanes (view w) = states-kept (view w) v (only-visit (view w) v s i visits) (length (records bytes)) (lanes .states) (ready .placed) in
-        let firsts : firstsOf bytes v ≡ firstsOf bytes (view w) = ap (firstsOf bytes) visits in
+        let firsts : firstsFor bytes v ≡ firstsFor bytes (view w) = ap (firstsFor bytes) visits in
         rw (firsts, states, visited-now bytes lanes c s i w ready v fits visits, kept-predecessors (records bytes) (statesOf lanes (view w)) s i (lanes .states) (states-length (view w) (lanes .states)))
-        (sym (shift-goes (records bytes) (firstsOf bytes (view w)) (statesOf lanes (view w)) c s i (traceOf lanes (view w)) (recorded bytes lanes c s i w ready) (below bytes lanes c s i w ready) (small bytes lanes c s i w ready) (as-long bytes lanes c s i w ready) (was bytes lanes c s i w ready b tested ∙ new)))
+        (sym (shift-goes (records bytes) (firstsFor bytes (view w)) (statesOf lanes (view w)) c s i (traceOf lanes (view w)) (recorded bytes lanes c s i w ready) (below bytes lanes c s i w ready) (small bytes lanes c s i w ready) (as-long bytes lanes c s i w ready) (was bytes lanes c s i w ready b tested ∙ new)))
 
     ended : (next : ℕ) (t : Trace) → lanes .states ≤ next → shiftRest bytes lanes c s i v next (traceOf lanes z) ≡ t → traceOf lanes z ≡ t
     unfolding shiftRest

@@ -17,7 +17,7 @@ use Rattle.lookahead.specs.Sets.{IsToken}
 use Rattle.states.specs.StatesIn.{Placed}
 use Rattle.lane_table.specs.declared.Lanes.{Lanes}
 use Rattle.lane_table.specs.Table.{tableIn}
-use Rattle.lane_table.specs.Traces.{firstsOf, statesOf, OnlyLanes}
+use Rattle.lane_table.specs.Traces.{firstsFor, statesOf, OnlyLanes}
 
 -- ---- the actions of the state at hand
 -- an action as a number: twice the terminal of a shift, one more than twice the item of a reduction
@@ -57,13 +57,13 @@ pub record Tabled (lanes : Lanes) (after : LaneTable) (v q : Room) : Type 0 wher
 
 -- action a is traced at state s in column c; the actions of the area are, from column c on; and they are in an empty table
 abbrev pub ActionTraced : List ℕ → Lanes → ℕ → ℕ → Action → Room → Room → Type 0
-ActionTraced bytes lanes c s a v q = Tabled lanes (traceAction (records bytes) (firstsOf bytes v) (statesOf lanes v) s c a (tableOf lanes v)) v q
+ActionTraced bytes lanes c s a v q = Tabled lanes (traceAction (records bytes) (firstsFor bytes v) (statesOf lanes v) s c a (tableOf lanes v)) v q
 
 abbrev pub tracedFrom : List ℕ → Lanes → ℕ → ℕ → List Action → Room → LaneTable → LaneTable
-tracedFrom bytes lanes s c actions v table = traceActions (records bytes) (firstsOf bytes v) (statesOf lanes v) s c actions table
+tracedFrom bytes lanes s c actions v table = traceActions (records bytes) (firstsFor bytes v) (statesOf lanes v) s c actions table
 
 abbrev pub ActionsTraced : List ℕ → Lanes → ℕ → Room → Room → Type 0
 ActionsTraced bytes lanes s v q = Tabled lanes (tracedFrom bytes lanes s 0 (actionsIn v (lanes .columns)) v (tableOf lanes v)) v q
 
 abbrev pub LaneTableBuilt : List ℕ → Lanes → ℕ → Room → Room → Type 0
-LaneTableBuilt bytes lanes s v q = Tabled lanes (laneTable (records bytes) (firstsOf bytes v) (statesOf lanes v) s (actionsIn v (lanes .columns))) v q
+LaneTableBuilt bytes lanes s v q = Tabled lanes (laneTable (records bytes) (firstsFor bytes v) (statesOf lanes v) s (actionsIn v (lanes .columns))) v q

@@ -1,4 +1,5 @@
 pub mod Actions
+pub mod Beachheads
 pub mod Changes
 pub mod Clears
 pub mod Graph

@@ -20,8 +20,8 @@ use Rattle.lane_table.specs.declared.Lanes.{Lanes}
 use Rattle.lane_table.specs.Table.{firstCell, traceIn}
 
 -- ---- what a trace speaks of, in the room
-abbrev pub firstsOf : List ℕ → Room → Sets
-firstsOf bytes r = firstsIn (records bytes) r
+abbrev pub firstsFor : List ℕ → Room → Sets
+firstsFor bytes r = firstsIn (records bytes) r
 
 abbrev pub statesOf : Lanes → Room → List State
 statesOf lanes r = statesIn r (lanes .states)
@@ -67,7 +67,7 @@ pub record Traced (lanes : Lanes) (after : Trace) (v q : Room) : Type 0 where
 
 -- the trace of column c back from item i in state s: its dot is past 0; it is 0
 abbrev pub ShiftTraced : List ℕ → Lanes → ℕ → ℕ → ℕ → Room → Room → Type 0
-ShiftTraced bytes lanes c s i v q = Traced lanes (unShifted (records bytes) (firstsOf bytes v) (statesOf lanes v) c s i (traceOf lanes v)) v q
+ShiftTraced bytes lanes c s i v q = Traced lanes (unShifted (records bytes) (firstsFor bytes v) (statesOf lanes v) c s i (traceOf lanes v)) v q
 
 abbrev pub CloseTraced : List ℕ → Lanes → ℕ → ℕ → ℕ → Room → Room → Type 0
-CloseTraced bytes lanes c s i v q = Traced lanes (unClosed (records bytes) (firstsOf bytes v) (statesOf lanes v) c s i (traceOf lanes v)) v q
+CloseTraced bytes lanes c s i v q = Traced lanes (unClosed (records bytes) (firstsFor bytes v) (statesOf lanes v) c s i (traceOf lanes v)) v q

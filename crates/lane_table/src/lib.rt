@@ -3,6 +3,7 @@ pub mod action;
 pub mod build;
 pub mod clear;
 pub mod graph;
+pub mod rows;
 pub mod table;
 pub mod trace;
 

@@ -8,7 +8,7 @@ ghost use Rattle.grammar.specs.Asked.{InRange, Faultless};
 ghost use Rattle.room.specs.Areas.{view};
 ghost use Rattle.room.specs.Bounds.{LongEnough, IsState, IsColumn, FewTerminals};
 ghost use Rattle.lane_table.specs.Changes.{startEntered, pastEntered};
-ghost use Rattle.lane_table.specs.Traces.{firstsOf, Traceable, ShiftTraced, CloseTraced};
+ghost use Rattle.lane_table.specs.Traces.{firstsFor, Traceable, ShiftTraced, CloseTraced};
 use super::Lanes;
 use super::graph::leads;
 use super::table::add_lookahead;
@@ -60,8 +60,8 @@ fn enter_past(
 ) -> bool
     requires { ⌜ (atEnd (records (now g)) j ≡ false) × Faultless (now g) × FewTerminals n × (n ≡ terminalCount (records (now g))) ⌝ }
     requires { ⌜ LongEnough (now work) × IsState state × IsColumn column ⌝ }
-    ensures { λ _. ⌜ view (now (work .exit)) ≡ pastEntered (records (now (g .entry))) (firstsOf (now (g .entry)) (view (now (work .entry)))) (state .0) (column .0) j (view (now (work .entry))) ⌝ }
-    ensures { λ r. ⌜ r ≡ emptyPast (records (now (g .entry))) (firstsOf (now (g .entry)) (view (now (work .entry)))) j ⌝ }
+    ensures { λ _. ⌜ view (now (work .exit)) ≡ pastEntered (records (now (g .entry))) (firstsFor (now (g .entry)) (view (now (work .entry)))) (state .0) (column .0) j (view (now (work .entry))) ⌝ }
+    ensures { λ r. ⌜ r ≡ emptyPast (records (now (g .entry))) (firstsFor (now (g .entry)) (view (now (work .entry)))) j ⌝ }
 {
     let hand = hand_slot();
     let empty = begin(g, n, j + 1, work, hand);

@@ -34,7 +34,7 @@ module _ (r : Room) (count : ℕ) where
   unfolding visitsIn
   visited-length = each-length (visitedIn r) 0 count
 
-  row-at : (width s : ℕ) → s < count → rowOf (tableIn r count width) s ≡ rowIn r width s
+  pub row-at : (width s : ℕ) → s < count → rowOf (tableIn r count width) s ≡ rowIn r width s
   unfolding rowOf tableIn
   row-at width s h = let e : 0 + s ≡ s = omega arith in each-at (rowIn r width) 0 count s noRow h ∙ ap (rowIn r width) e
 
