@@ -5,3 +5,4 @@ pub mod Loops
 pub mod Moves
 pub mod Rests
 pub mod Tested
+pub mod Turns

@@ -17,6 +17,7 @@ ghost use Rattle.lookahead.specs.Sets.{copySet};
 ghost use Rattle.states.specs.StatesIn.{entryIn, firstOf, Placed};
 ghost use Rattle.least_sets.specs.Least.{leastSlot, leastEntry, leastOf, OnlyLeast};
 ghost use Rattle.least_sets.specs.Steps.{Ready, HasEntry, closingPut, movedFrom, hasMoved, closedFrom, hasClosing, movedLeast, isMoved, closedLeast, isClosed, settledLeast, isSettled, stateLeast, isStateSettled, roundLeast, isRoundSettled};
+ghost use Rattle.least_sets.specs.Rounds.{roundsLeast};
 use super::give::either;
 use super::give::give;
 use super::give::least_slot;
@@ -182,4 +183,19 @@ fn round(g: &[u8], n: usize, count: usize, work: &mut [u64]) -> bool
         lacked = either(lacked, new);
     }
     lacked
+}
+
+// Rounds until one finds nothing that is lacking, at most as many as there are pairs of entry and token.
+pub fn rounds(g: &[u8], n: usize, count: usize, work: &mut [u64])
+    requires { ⌜ LongEnough (now work) × Ready (now g) count (view (now work)) × (n ≡ terminalCount (records (now g))) ⌝ }
+    ensures { λ _. ⌜ leastOf count (now (work .exit)) ≡ roundsLeast (now (g .entry)) n count (now (work .entry)) ⌝ }
+    ensures { λ _. ⌜ OnlyLeast (view (now (work .entry))) (view (now (work .exit))) ⌝ }
+{
+    let entries = first_entry(work, StateIndex(count));
+    let bound = entries * (n + 1);
+    for turn in 0..bound {
+        if !round(g, n, count, work) {
+            return;
+        }
+    }
 }
