@@ -1,5 +1,4 @@
 // The trace of one action: lane/mod.rs, start_trace.
-ghost use mathlib.Core.Path.{_≡_};
 ghost use Prim.Native.Nat.{_≤_, _<_};
 ghost use Rattle.rules.specs.Limits.{maxStates, maxColumns};
 ghost use Rattle.rules.specs.Lanes.{Action};

@@ -1,0 +1,4 @@
+pub mod Giving
+pub mod Least
+pub mod Rounds
+pub mod Steps

@@ -1,0 +1,3 @@
+// The least sets of the final check: over the states reachable from 0, in the slots that the lane table had.
+pub mod give;
+pub mod rounds;
