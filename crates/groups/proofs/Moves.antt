@@ -79,7 +79,7 @@ moved-more from to n v w q m count upto fits same h low moves = record {
 }
 
 -- ---- the merge after it
-map-each : {A B : Type 0} (f : A → B) (h : ℕ → A) (i n : ℕ) → map f (eachFrom h i n) ≡ eachFrom (λ k. f (h k)) i n
+pub map-each : {A B : Type 0} (f : A → B) (h : ℕ → A) (i n : ℕ) → map f (eachFrom h i n) ≡ eachFrom (λ k. f (h k)) i n
 unfolding eachFrom
 map-each f h i zero = refl
 map-each f h i (suc n) = ap (λ l. f (h i) ∷ l) (map-each f h (suc i) n)
