@@ -109,7 +109,7 @@ module _ (l : Limits) where
   mark-walked-keeps n s m (f, k) = (f, omega (arith, size-within (m .walked) (join (m .walked) (single s)) (within-join (m .walked) (single s)) (l .states)))
 
   -- a state that was not walked counts
-  mark-walked-counts : (s : ℕ) (m : Merge) → s < l .states → has (m .walked) s ≡ false → walks m < walks (markWalked s m)
+  pub mark-walked-counts : (s : ℕ) (m : Merge) → s < l .states → has (m .walked) s ≡ false → walks m < walks (markWalked s m)
   unfolding markWalked
   mark-walked-counts s m b e =
       size-strict (m .walked) (join (m .walked) (single s)) (within-join (m .walked) (single s)) (l .states) s b
@@ -117,9 +117,9 @@ module _ (l : Limits) where
 
 module _ (l : Limits) (g : Grammar) (table : LaneTable) (rows : length table ≤ l .states) where
   -- ---- joining a successor walks nothing, and stays within the limit
-  record Joins (walked : ℕ) (m : Merge) : Type 0 where
-    fits : Fits l m
-    same : m .walked ≡ walked
+  pub record Joins (walked : ℕ) (m : Merge) : Type 0 where
+    pub fits : Fits l m
+    pub same : m .walked ≡ walked
 
   joined-joins : (s successor t : ℕ) (m : Merge) → Fits l m → Joins (m .walked) (joined g s successor t m)
   unfolding joined joinGroups patchLinks
@@ -129,7 +129,7 @@ module _ (l : Limits) (g : Grammar) (table : LaneTable) (rows : length table ≤
       by-test true = record { fits = h; same = refl }
       by-test false = record { fits = rw (length-set (m .states) s) h; same = refl }
 
-  abbrev JoinsWithin : Merge → Joining → Type 0
+  abbrev pub JoinsWithin : Merge → Joining → Type 0
   JoinsWithin m j = (j .state < l .states) × Joins (m .walked) (j .merge)
 
   new-within : (m : Merge) (o : Outcome Merge) (t : ℕ) → Holds (λ m′. (t < l .states) × Joins (m .walked) m′) o → Holds (JoinsWithin m) (withNew t o)
@@ -161,7 +161,7 @@ module _ (l : Limits) (g : Grammar) (table : LaneTable) (rows : length table ≤
   choice-below : (m : Merge) (successor t : ℕ) → Fits l m → successor < l .states → Among t (successor ∷ clonesOf m successor) → t < l .states
   choice-below m successor t h b i = ⊎-elim (λ e. rw e b) (λ c. omega (arith, clone-below m successor t c)) (among-cons i)
 
-  successor-joins : (s successor : ℕ) (m : Merge) → Fits l m → successor < l .states → Holds (JoinsWithin m) (joinSuccessor l g table s successor m)
+  pub successor-joins : (s successor : ℕ) (m : Merge) → Fits l m → successor < l .states → Holds (JoinsWithin m) (joinSuccessor l g table s successor m)
   unfolding joinSuccessor
   successor-joins s successor m h b =
       let choices : List ℕ = successor ∷ clonesOf m successor in

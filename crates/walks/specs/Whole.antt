@@ -1,11 +1,16 @@
 -- A walk with the fuel that `mergeRows` gives it: a call more than there can be states. It is its own step over again (proofs/Whole.antt):
 -- so a function that calls itself without fuel is compared with it step by step.
-use Prim.Native.Nat.{ℕ, suc}
+use Prim.Native.Nat.{ℕ, suc, _-_}
 use Rattle.rules.specs.Limits.{Limits}
 use Rattle.rules.specs.Records.{Grammar}
 use Rattle.rules.specs.States.{Outcome, done, refused}
 use Rattle.rules.specs.Lanes.{LaneTable}
 use Rattle.rules.specs.Merge.{Merge, Joining, joinSuccessor, walk}
+use Rattle.sets.specs.Size.{size}
+
+-- how many of the states that there can be are not walked yet
+unfoldable pub walksLeft : Limits → Merge → ℕ
+walksLeft l m = l .states - size (l .states) (m .walked)
 
 module _ (l : Limits) (g : Grammar) (table : LaneTable) where
   unfoldable pub walked : ℕ → Merge → Outcome Merge

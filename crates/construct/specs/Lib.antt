@@ -1,0 +1,3 @@
+pub mod Joins
+pub mod Merges
+pub mod Walks

@@ -1,0 +1,4 @@
+pub mod Members
+pub mod Merged
+pub mod Moves
+pub mod Tested
