@@ -1,9 +1,9 @@
--- `grammar_limits::numbered_as` meets its contract: each variant has the number that document 01 gives it.
+-- `answers::grammar_refusal_said` meets its contract: each variant has the number that document 01 gives it.
 use mathlib.Core.Path.{ap}
 use borrow.Author.Needs.{needs}
 use Rattle.rules.specs.Answers.{grammarRefusalSaid}
-use Rattle.grammar_limits.proofs.numbered_as.Statement.{statement}
-use Rattle.grammar_limits.proofs.numbered_as.Tie as tie
+use Rattle.answers.proofs.grammar_refusal_said.Statement.{statement}
+use Rattle.answers.proofs.grammar_refusal_said.Tie as tie
 
 returns : tie.Need-returns
 unfolding grammarRefusalSaid
@@ -29,8 +29,8 @@ returns-6 : tie.Need-returns-6
 unfolding grammarRefusalSaid
 returns-6 c = ap grammarRefusalSaid (c .before .why5 .given .1)
 
-pub numbered-as-spec : {M : Type 1} → statement M
-numbered-as-spec =
+pub grammar-refusal-said-spec : {M : Type 1} → statement M
+grammar-refusal-said-spec =
     tie.close
     (tie.spec
     (λ c. search needs)

@@ -1,0 +1,77 @@
+// The text of answers and of tables: an answer is a line, and each record of a table is one: state, kind (s shift, g goto, r reduce),
+// symbol, target.
+use answers::Said;
+use libc::STDOUT_FILENO;
+ghost use Prim.Native.Nat.{_*_, _≤_};
+ghost use lib.ListN.{length};
+ghost use Rattle.grammar.specs.Asked.{InRange};
+
+// Writes a word and two numbers behind it.
+fn write_numbers(to: i32, word: &[u8], a: u64, b: u64) {
+    io::write_all(to, word);
+    io::write_all(to, b" ");
+    io::print_decimal(to, a);
+    io::write_all(to, b" ");
+    io::print_decimal(to, b);
+}
+
+// Writes the line of an answer.
+pub fn write_said(to: i32, said: Said) {
+    match said {
+        Said::Coded => {
+            io::write_all(to, b"coded");
+        }
+        Said::Built(states, records) => {
+            io::write_all(to, b"built ");
+            io::print_decimal(to, states as u64);
+            io::write_all(to, b" states ");
+            io::print_decimal(to, records as u64);
+            io::write_all(to, b" records");
+        }
+        Said::Refused(number, place) => {
+            write_numbers(to, b"refused", number, place as u64);
+        }
+        Said::Accepted(steps, listed) => {
+            write_numbers(to, b"accepted", steps as u64, listed as u64);
+        }
+        Said::Stopped(number, place, steps, listed) => {
+            write_numbers(to, b"refused", number, place as u64);
+            write_numbers(to, b"", steps as u64, listed as u64);
+        }
+    }
+    io::write_all(to, b"\n");
+}
+
+// Writes the letter of a record's kind, with a blank on both sides.
+fn write_kind(kind: usize) {
+    if kind == record::records::SHIFT {
+        io::write_all(STDOUT_FILENO, b" s ");
+        return;
+    }
+    if kind == record::records::GOTO {
+        io::write_all(STDOUT_FILENO, b" g ");
+        return;
+    }
+    io::write_all(STDOUT_FILENO, b" r ");
+}
+
+// Writes the line of record i of a table.
+fn write_record(table: &[u8], i: usize)
+    requires { ⌜ InRange i (now table) ⌝ }
+{
+    io::print_decimal(STDOUT_FILENO, record::records::state(table, i) as u64);
+    write_kind(record::records::kind(table, i));
+    io::print_decimal(STDOUT_FILENO, record::records::symbol(table, i) as u64);
+    io::write_all(STDOUT_FILENO, b" ");
+    io::print_decimal(STDOUT_FILENO, record::records::target(table, i) as u64);
+    io::write_all(STDOUT_FILENO, b"\n");
+}
+
+// Writes the lines of the first `count` records of a table.
+pub fn write_records(table: &[u8], count: usize)
+    requires { ⌜ 8 * count ≤ length (now table) ⌝ }
+{
+    for i in 0..count {
+        write_record(table, i);
+    }
+}
