@@ -59,7 +59,7 @@ module _ (lanes : Lanes) (count : ℕ) (v : Room) (grouped : Grouped lanes count
   members : (group : ℕ) → keep (λ k. eqb (headIn v k) group) (upTo count) ≡ keep (λ k. eqb (headOf merge k) group) (upTo (length (merge .states)))
   members group = rw (merge-count v count) (keep-same _ _ (upTo count) (λ k m. ap (λ (h : ℕ). eqb h group) (sym (head-at v count k (upTo-among k count .0 m)))))
 
-  gathered-group : (group : ℕ) → 0 < lanes .states → gathered (lanes .columns) count group v ≡ groupColumns (tableOf lanes v) merge group
+  pub gathered-group : (group : ℕ) → 0 < lanes .states → gathered (lanes .columns) count group v ≡ groupColumns (tableOf lanes v) merge group
   unfolding gathered groupColumns
   gathered-group group some =
       rw (← columns-none some, ← members group)
@@ -67,7 +67,7 @@ module _ (lanes : Lanes) (count : ℕ) (v : Room) (grouped : Grouped lanes count
       (λ k m columns i. ap (joinColumns columns) (sym (row-is k (upTo-among k count .0 (keep-among _ (upTo count) m .0))))) (λ k m columns i. tt) (replicate (lanes .columns) 0) tt)
 
 -- ---- the test
-closure-only : (at width : ℕ) (v q : Room) → closureSlot 0 ≤ at → at + width ≤ entrySlot 0 → OnlyColumns at width v q → OnlyClosure v q
+pub closure-only : (at width : ℕ) (v q : Room) → closureSlot 0 ≤ at → at + width ≤ entrySlot 0 → OnlyColumns at width v q → OnlyClosure v q
 closure-only at width v q h g only = record {
   others = only .others;
   words = only .words;

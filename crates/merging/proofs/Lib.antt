@@ -1,0 +1,5 @@
+pub mod Beginnings
+pub mod Takers
+pub mod Takings
+pub mod Visiting
+pub mod Walking
