@@ -11,15 +11,15 @@ use Rattle.rules.specs.Tokens.{TokenSet}
 use Rattle.rules.specs.Grammar.{terminalCount, nonterminalCount}
 use Rattle.room.specs.Areas.{Room, withSets}
 use Rattle.room.specs.Bounds.{IsEntry, IsSlot, FewTerminals}
-use Rattle.room.specs.Slots.{handSlot}
+use Rattle.room.specs.Slots.{entrySlot, handSlot}
 use Rattle.lookahead.specs.Sets.{loadSet, setAt, putSet, copySet}
 use Rattle.lookahead.proofs.Slots.{put-elsewhere, length-stored-set}
 use Rattle.grammar.specs.Asked.{Faultless}
 use Rattle.grammar.proofs.Coded.{terminal-count-below, nonterminal-count-below}
-use Rattle.states.specs.StatesIn.{entryIn, firstOf, Placed}
+use Rattle.states.specs.StatesIn.{entryIn, firstOf, statesIn, Placed}
 use Rattle.states.proofs.Entries.{item-small}
-use Rattle.states.proofs.States.{first-same}
-use Rattle.states.proofs.Places.{placed-same}
+use Rattle.states.proofs.States.{first-same, entry-same}
+use Rattle.states.proofs.Places.{end-within, placed-same, states-same}
 use Rattle.least_sets.specs.Least.{leastSlot, leastIn, OnlyLeast}
 use Rattle.least_sets.specs.Steps.{Ready}
 use Rattle.least_sets.proofs.Entries.{same-items, least-same, least-state-same, least-states-same}
@@ -105,3 +105,9 @@ entry-only v q s k only h =
 
 pub entry-left : (v q : Room) (s k size : ℕ) → OnlyLeast v q → size ≡ firstOf v (s + 1) - firstOf v s → k < size → firstOf q s + k < firstOf q (s + 1)
 entry-left v q s k size only is h = entry-only v q s k only (omega arith)
+
+-- ---- the states stay
+pub only-states : (recordCount count : ℕ) (v q : Room) → Placed recordCount count v → OnlyLeast v q → statesIn q count ≡ statesIn v count
+only-states recordCount count v q placed only =
+    states-same recordCount count v q placed (ap (λ (r : Room). r .firstEntries) (only .others))
+    (λ k h. entry-same v q k (ap (λ (r : Room). r .entries) (only .others)) (only .slots (entrySlot k) (omega (arith, end-within recordCount count v placed))))

@@ -37,3 +37,8 @@ pub record OnlyLeast (v q : Room) : Type 0 where
   pub others : withSets [] q ≡ withSets [] v
   pub words : length (q .sets) ≡ length (v .sets)
   pub slots : (slot : ℕ) → slot < leastSlot 0 → setAt q slot ≡ setAt v slot
+
+-- and the least set of every entry is empty
+pub record LeastCleared (count : ℕ) (v q : Room) : Type 0 where
+  pub only : OnlyLeast v q
+  pub empty : (k : ℕ) → k < firstOf v count → setAt q (leastSlot k) ≡ 0

@@ -1,14 +1,19 @@
 -- The token set in a slot of the room. Here a set is one word of the area of sets, and nothing else knows that: `loadSet` and
 -- `storeSet` are shut, and their laws are in proofs/Slots.antt.
 use Prim.Native.Nat.{ℕ, _<_}
-use mathlib.Core.Bool.{Bool, not}
+use mathlib.Core.Bool.{Bool, not, _&&_}
 use mathlib.Core.List.{List}
 use lib.ListN.{getD, set}
+use Rattle.base.specs.Loops.{anyFrom}
 use Rattle.rules.specs.Tokens.{TokenSet, has, single, join, within, without}
 use Rattle.room.specs.Areas.{Room, withSets}
 
+-- how many tokens a set has room for
+abbrev pub maxTokens : ℕ
+maxTokens = 64
+
 abbrev pub IsToken : ℕ → Type 0
-IsToken token = token < 64
+IsToken token = token < maxTokens
 
 unfoldable pub loadSet : List ℕ → ℕ → TokenSet
 loadSet words slot = getD words slot 0
@@ -42,3 +47,11 @@ takeToken slot token r = putSet slot (without (setAt r slot) token) r
 
 abbrev pub hasToken : ℕ → ℕ → Room → Bool
 hasToken slot token r = has (setAt r slot) token
+
+-- ---- the token is in the slot `from` and not in `into`, and one of the first tokens is
+unfoldable pub lacksToken : ℕ → ℕ → Room → ℕ → Bool
+unfolding has
+lacksToken into from r token = hasToken from token r && not (hasToken into token r)
+
+abbrev pub lacksBelow : ℕ → ℕ → Room → ℕ → Bool
+lacksBelow into from r end = anyFrom (lacksToken into from r) end 0

@@ -1,13 +1,15 @@
 // Token sets by slot of the work room: lookahead.rs. A caller names slots and tokens, and never sees how a set is kept.
 ghost use mathlib.Core.Path.{_≡_};
 ghost use mathlib.Core.Bool.{not};
+ghost use Prim.Native.Nat.{_≤_};
 ghost use lib.Dec.{eqb};
 ghost use Rattle.rules.specs.Tokens.{single, disjoint, within, eof, all};
 ghost use Rattle.room.specs.Areas.{view};
 ghost use Rattle.room.specs.Bounds.{LongEnough, IsSlot, FewTerminals};
-ghost use Rattle.lookahead.specs.Sets.{IsToken, setAt, putSet, copySet, joinSet, lacksSome, insertToken, takeToken, hasToken};
+ghost use Rattle.lookahead.specs.Sets.{maxTokens, IsToken, setAt, putSet, copySet, joinSet, lacksSome, insertToken, takeToken, hasToken, lacksToken, lacksBelow};
 use room::areas::get_set_word;
 use room::areas::put_set_word;
+use words::WORD_BITS;
 use words::all_word;
 use words::single_word;
 use words::word_disjoint;
@@ -157,4 +159,29 @@ pub fn is_within(work: &[u64], x: usize, y: usize) -> bool
     let a = load(work, x);
     let b = load(work, y);
     word_within(a, b)
+}
+
+// The token is in the slot `from`, and the slot `into` lacks it.
+pub fn lacks(work: &[u64], into: usize, from: usize, token: usize) -> bool
+    requires { ⌜ LongEnough (now work) × IsSlot into × IsSlot from × IsToken token ⌝ }
+    ensures { λ r. ⌜ r ≡ lacksToken into from (view (now (work .entry))) token ⌝ }
+{
+    if !contains(work, from, token) {
+        return false;
+    }
+    !contains(work, into, token)
+}
+
+// How many tokens are to be asked for to find one that the slot `from` has and the slot `into` lacks: none if there is none, else all
+// that a set has room for.
+pub fn lacking_end(work: &[u64], into: usize, from: usize) -> usize
+    requires { ⌜ LongEnough (now work) × IsSlot into × IsSlot from ⌝ }
+    ensures { λ r. ⌜ (r ≤ maxTokens) × (lacksBelow into from (view (now (work .entry))) r ≡ lacksSome into from (view (now (work .entry)))) ⌝ }
+{
+    let a = load(work, from);
+    let b = load(work, into);
+    if word_within(a, b) {
+        return 0;
+    }
+    WORD_BITS
 }
