@@ -10,7 +10,7 @@ use Rattle.table_records.proofs.count.count_reductions.Statement.{state
 use Rattle.table_records.proofs.count.count_reductions.Tie as tie
 
 abbrev Inv-loop : tie.InvT-loop
-Inv-loop g n state work tokens count₀ t₀ count t = (t ≤ tokens) × (count ≤ maxEntries * t) × (count + length (inTurn (onToken g work (state .0)) t tokens) ≡ length (inTurn (onToken g work (state .0)) 0 tokens))
+Inv-loop g n state work tokens count₀ t₀ count t = (t ≤ tokens) × (count ≤ maxEntries * t) × (count + length (inTurn (onToken g work (state .0)) t tokens) ≡ length (inTurn (onToken g work (state .0)) 0 (n + 1)))
 
 abbrev μ-loop : tie.MeasureT-loop
 μ-loop g n state work tokens count₀ t₀ count t = tokens - t

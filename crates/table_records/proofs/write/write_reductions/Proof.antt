@@ -1,5 +1,5 @@
 -- `table_records::write::write_reductions` meets its contract. The loop's invariant: what is left to write gives the room and the place. The measure is what is left of the tokens.
-use Prim.Native.Nat.{_≤_, _-_}
+use Prim.Native.Nat.{_+_, _≤_, _-_}
 use borrow.Author.Needs.{needs}
 use Rattle.table_records.specs.Records.{inTurn, onToken}
 use Rattle.table_records.proofs.Writes.{Left, left-start, turn-fits, turn-left, turns-over}
@@ -7,7 +7,7 @@ use Rattle.table_records.proofs.write.write_reductions.Statement.{state
 use Rattle.table_records.proofs.write.write_reductions.Tie as tie
 
 abbrev Inv-loop : tie.InvT-loop
-Inv-loop g n state work table₀ at tokens to₀ t₀ table to t = (t ≤ tokens) × Left (inTurn (onToken g work (state .0)) t tokens) to table (inTurn (onToken g work (state .0)) 0 tokens) at table₀
+Inv-loop g n state work table₀ at tokens to₀ t₀ table to t = (t ≤ tokens) × Left (inTurn (onToken g work (state .0)) t tokens) to table (inTurn (onToken g work (state .0)) 0 (n + 1)) at table₀
 
 abbrev μ-loop : tie.MeasureT-loop
 μ-loop g n state work table₀ at tokens to₀ t₀ table to t = tokens - t
