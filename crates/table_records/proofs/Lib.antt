@@ -1,0 +1,6 @@
+pub mod Entries
+pub mod Rooms
+pub mod Searches
+pub mod States
+pub mod Turns
+pub mod Writes
