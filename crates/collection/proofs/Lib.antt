@@ -1,0 +1,7 @@
+pub mod Closing
+pub mod Collecting
+pub mod Expanding
+pub mod Frames
+pub mod Modes
+pub mod Next
+pub mod Unique

@@ -1,0 +1,2 @@
+pub mod Collections
+pub mod Expands
