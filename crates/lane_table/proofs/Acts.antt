@@ -18,6 +18,7 @@ use Rattle.room.specs.Slots.{handSlot}
 use Rattle.room.proofs.Lengths.{view-lengths}
 use Rattle.lookahead.specs.Sets.{IsToken, setAt, putSet}
 use Rattle.states.proofs.States.{states-length}
+use Rattle.state_graph.specs.Links.{Linked}
 use Rattle.traces.specs.Whole.{traceBegun}
 use Rattle.traces.proofs.Whole.{action-goes, back-closed, back-shifted}
 use Rattle.lane_table.specs.Actions.{actionOf, ActionFits, Tracing, tableOf, ActionTraced}
@@ -88,8 +89,8 @@ module _ (bytes : List ℕ) (lanes : Lanes) (c s i hand : ℕ) (w w₁ : List �
     }
 
 -- ---- an action by its number
-traceable-at : (bytes : List ℕ) (lanes : Lanes) (c s i : ℕ) (v : Room) → Tracing bytes lanes s v → c < lanes .columns → InRange i bytes → Traceable bytes lanes c s i v
-traceable-at bytes lanes c s i v tracing column item = record {
+traceable-at : (bytes : List ℕ) (lanes : Lanes) (c s i : ℕ) (v : Room) → Tracing bytes lanes s v → Linked bytes (lanes .states) v → c < lanes .columns → InRange i bytes → Traceable bytes lanes c s i v
+traceable-at bytes lanes c s i v tracing linked column item = record {
   clean = tracing .clean;
   short = tracing .short;
   item = item;
@@ -99,11 +100,12 @@ traceable-at bytes lanes c s i v tracing column item = record {
   column = column;
   narrow = tracing .narrow;
   placed = tracing .placed;
+  linked = linked;
 }
 
 module _ (bytes : List ℕ) (lanes : Lanes) (c s a : ℕ) (v : Room) (tracing : Tracing bytes lanes s v) (column : c < lanes .columns) (fits : ActionFits bytes a) where
-  pub reduction-ready : a % 2 ≡ 1 → Traceable bytes lanes c s (a / 2) v
-  reduction-ready e = traceable-at bytes lanes c s (a / 2) v tracing column (fits .reduces e)
+  pub reduction-ready : Linked bytes (lanes .states) v → a % 2 ≡ 1 → Traceable bytes lanes c s (a / 2) v
+  reduction-ready linked e = traceable-at bytes lanes c s (a / 2) v tracing linked column (fits .reduces e)
 
   pub reduction-acted : (q : Room) → a % 2 ≡ 1 → ActionTraced bytes lanes c s (reduce (a / 2)) v q → ActionTraced bytes lanes c s (actionOf a) v q
   unfolding actionOf

@@ -1,7 +1,8 @@
 -- What a trace leaves: everything but the lane table, the items visited and the slot at hand. So the states and FIRST stay.
-use Prim.Native.Nat.{ℕ, _≤_}
+use Prim.Native.Nat.{ℕ, _+_, _≤_, _<_}
 use mathlib.Core.Path.{_≡_, refl, ap, _∙_}
 use mathlib.Core.Bool.{Bool, true, false}
+use mathlib.Core.List.{List}
 use native.Mathlib.Omega.{arith}
 use lib.ListN.{length, length-set}
 use lib.Dec.{eqb}
@@ -21,11 +22,12 @@ use Rattle.room.specs.Slots.{entrySlot, handSlot}
 use Rattle.room.proofs.Lengths.{Lengths}
 use Rattle.lookahead.specs.Sets.{loadSet, putSet}
 use Rattle.lookahead.proofs.Slots.{put-elsewhere, length-stored-set}
-use Rattle.marks.specs.Marks.{successorAdded, itemVisited}
+use Rattle.marks.specs.Marks.{linksIn, successorAdded, itemVisited}
 use Rattle.first.specs.Firsts.{firstsIn}
-use Rattle.states.specs.StatesIn.{entryIn, statesIn, Placed}
+use Rattle.states.specs.StatesIn.{entryIn, statesIn, PlaceOf, Placed}
 use Rattle.states.proofs.Places.{end-within, placed-same, states-same}
-use Rattle.states.proofs.States.{entry-same}
+use Rattle.states.proofs.States.{entry-same, first-same}
+use Rattle.state_graph.specs.Links.{Seen, Linked}
 use Rattle.lane_table.specs.Changes.{tokensEntered, handEntered, startEntered, pastEntered}
 use Rattle.lane_table.specs.Table.{firstCell, cellSlot}
 use Rattle.lane_table.specs.Traces.{OnlyLanes}
@@ -129,6 +131,28 @@ module _ (v q : Room) (only : OnlyLanes v q) where
   firsts-kept g clean =
       let m = nonterminal-count-below g clean in
       each-same (loadSet (q .sets)) (loadSet (v .sets)) 0 (nonterminalCount g) (λ slot h l. only .slots slot (omega arith))
+
+  item-same : (k : ℕ) → entryIn q k .item ≡ entryIn v k .item
+  unfolding entryIn
+  item-same k = ap (λ (r : Room). entryIn r k .item) (only .others)
+
+  next-same : (k : ℕ) → entryIn q k .next ≡ entryIn v k .next
+  unfolding entryIn
+  next-same k = ap (λ (r : Room). entryIn r k .next) (only .others)
+
+  links-same : (s : ℕ) → linksIn q s ≡ linksIn v s
+  unfolding linksIn
+  links-same s = ap (λ (r : Room). linksIn r s) (only .others)
+
+  pub linked-kept : (bytes : List ℕ) (count : ℕ) → Linked bytes count v → Linked bytes count q
+  linked-kept bytes count linked = record { each = λ p h. record { seen = λ k place. seen p k h place } }
+    where
+      seen : (p k : ℕ) → p < count → PlaceOf q p k → Seen bytes q p k
+      seen p k h place f low =
+          let a = first-same v q firsts-same p in
+          let b = first-same v q firsts-same (p + 1) in
+          let there = linked .each p h .seen k (record { from = omega (arith, place .from); to = omega (arith, place .to) }) in
+          rw (next-same k, links-same (entryIn v k .next)) (there (rw (item-same k) at f) (rw (next-same k) at low))
 
   pub sized-kept : Lengths v → Lengths q
   sized-kept sized = record {

@@ -23,7 +23,7 @@ use Rattle.traces.proofs.Left.{shift-left, close-left, visit-left, table-left}
 use Rattle.lane_table.specs.declared.Lanes.{Lanes}
 use Rattle.lane_table.specs.Changes.{startEntered, pastEntered}
 use Rattle.lane_table.specs.Traces.{firstsFor, statesOf, traceOf, leftIn, OnlyLanes, Traceable, ShiftTraced, CloseTraced}
-use Rattle.lane_table.proofs.Frames.{only-none, only-both, only-visit, only-link, only-start, only-past, placed-kept, states-kept, firsts-kept, sized-kept}
+use Rattle.lane_table.proofs.Frames.{only-none, only-both, only-visit, only-link, only-start, only-past, placed-kept, linked-kept, states-kept, firsts-kept, sized-kept}
 use Rattle.lane_table.proofs.Pairs.{small, was, visited-now}
 use Rattle.lane_table.proofs.Changed.{visited-length, linked-trace, entered-by-hand, start-trace}
 
@@ -48,6 +48,7 @@ ready-kept bytes lanes c s i v q only ready = record {
   column = ready .column;
   narrow = ready .narrow;
   placed = placed-kept v q only (length (records bytes)) (lanes .states) (ready .placed);
+  linked = linked-kept v q only bytes (lanes .states) (ready .linked);
 }
 
 -- ---- how many pairs are left
@@ -161,6 +162,7 @@ ready-at bytes lanes c s i p j q ready low item = record {
   column = ready .column;
   narrow = ready .narrow;
   placed = ready .placed;
+  linked = ready .linked;
 }
 
 pub linked-ready : (bytes : List ℕ) (lanes : Lanes) (c s i p : ℕ) (v q u : Room) → Going bytes lanes c s i v q → p < lanes .states → u ≡ successorAdded p s q → Traceable bytes lanes c p (i - 1) u

@@ -8,6 +8,5 @@ pub mod Columns
 pub mod Frames
 pub mod Going
 pub mod Items
-pub mod Leads
 pub mod Pairs
 pub mod ShiftLoop

@@ -20,9 +20,9 @@ use Rattle.room.specs.Bounds.{LongEnough}
 use Rattle.marks.specs.Marks.{visitedIn, successorAdded, itemVisited}
 use Rattle.states.specs.StatesIn.{stateIn}
 use Rattle.states.proofs.States.{state-at, states-length}
+use Rattle.state_graph.specs.Graph.{leadsTo, precedes, symbolAt}
 use Rattle.traces.specs.Whole.{unShifted, unClosed, overPredecessor}
 use Rattle.traces.proofs.Whole.{shift-goes, shift-seen, back-closed, back-shifted, predecessor-goes}
-use Rattle.lane_table.specs.Graph.{leadsTo, precedes, symbolAt}
 use Rattle.lane_table.specs.Traces.{firstsFor, statesOf, traceOf, Traceable, ShiftTraced, CloseTraced}
 use Rattle.lane_table.specs.declared.Lanes.{Lanes}
 use Rattle.lane_table.proofs.Frames.{only-none, only-both, only-visit, only-link, states-kept}

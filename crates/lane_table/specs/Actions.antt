@@ -15,6 +15,7 @@ use Rattle.room.specs.Areas.{Room}
 use Rattle.room.specs.Bounds.{FewTerminals}
 use Rattle.lookahead.specs.Sets.{IsToken}
 use Rattle.states.specs.StatesIn.{Placed}
+use Rattle.state_graph.specs.Links.{withLinksOf}
 use Rattle.lane_table.specs.declared.Lanes.{Lanes}
 use Rattle.lane_table.specs.Table.{tableIn}
 use Rattle.lane_table.specs.Traces.{firstsFor, statesOf, OnlyLanes}
@@ -65,5 +66,6 @@ tracedFrom bytes lanes s c actions v table = traceActions (records bytes) (first
 abbrev pub ActionsTraced : List ℕ → Lanes → ℕ → Room → Room → Type 0
 ActionsTraced bytes lanes s v q = Tabled lanes (tracedFrom bytes lanes s 0 (actionsIn v (lanes .columns)) v (tableOf lanes v)) v q
 
+-- that table is built in q; the links of its states are left there too
 abbrev pub LaneTableBuilt : List ℕ → Lanes → ℕ → Room → Room → Type 0
-LaneTableBuilt bytes lanes s v q = Tabled lanes (laneTable (records bytes) (firstsFor bytes v) (statesOf lanes v) s (actionsIn v (lanes .columns))) v q
+LaneTableBuilt bytes lanes s v q = Tabled lanes (laneTable (records bytes) (firstsFor bytes v) (statesOf lanes v) s (actionsIn v (lanes .columns))) (withLinksOf q v) q

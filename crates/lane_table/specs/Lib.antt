@@ -2,6 +2,5 @@ pub mod Actions
 pub mod Beachheads
 pub mod Changes
 pub mod Clears
-pub mod Graph
 pub mod Table
 pub mod Traces

@@ -15,6 +15,7 @@ use Rattle.room.specs.Bounds.{FewTerminals}
 use Rattle.lookahead.specs.Sets.{setAt}
 use Rattle.first.specs.Firsts.{firstsIn}
 use Rattle.states.specs.StatesIn.{statesIn, Placed}
+use Rattle.state_graph.specs.Links.{Linked}
 use Rattle.traces.specs.Whole.{pairsLeft, unShifted, unClosed}
 use Rattle.lane_table.specs.declared.Lanes.{Lanes}
 use Rattle.lane_table.specs.Table.{firstCell, traceIn}
@@ -48,7 +49,7 @@ pub record OnlyLanes (v q : Room) : Type 0 where
   pub slots : (slot : ℕ) → slot < firstCell → setAt q slot ≡ setAt v slot
 
 -- ---- the promise of a trace
--- it can go back from item i in state s: the grammar is coded, the numbers are within their limits, and the states are in place
+-- it can go back from item i in state s: the grammar is coded, the numbers are within their limits, and the states are in place and linked
 pub record Traceable (bytes : List ℕ) (lanes : Lanes) (c s i : ℕ) (v : Room) : Type 0 where
   pub clean : Faultless bytes
   pub short : length bytes ≤ maxBytes
@@ -59,6 +60,7 @@ pub record Traceable (bytes : List ℕ) (lanes : Lanes) (c s i : ℕ) (v : Room)
   pub column : c < lanes .columns
   pub narrow : lanes .columns ≤ maxColumns
   pub placed : Placed (length (records bytes)) (lanes .states) v
+  pub linked : Linked bytes (lanes .states) v
 
 -- the room q after a trace that began in v and gives what `after` says
 pub record Traced (lanes : Lanes) (after : Trace) (v q : Room) : Type 0 where

@@ -5,6 +5,7 @@ ghost use Rattle.rules.specs.Lanes.{Action};
 ghost use Rattle.room.specs.Areas.{view};
 ghost use Rattle.room.specs.Bounds.{LongEnough};
 ghost use Rattle.lookahead.specs.Sets.{IsToken};
+ghost use Rattle.state_graph.specs.Links.{Linked};
 ghost use Rattle.lane_table.specs.Actions.{actionOf, ActionFits, Tracing, ActionTraced, ActionsTraced};
 ghost use Rattle.lane_table.specs.Traces.{Traceable};
 use super::Lanes;
@@ -69,7 +70,8 @@ fn trace_action(
     action: u64,
     work: &mut [u64],
 )
-    requires { ⌜ Tracing (now g) lanes (state .0) (view (now work)) × LongEnough (now work) × (column .0 < lanes .columns) × ActionFits (now g) action ⌝ }
+    requires { ⌜ Tracing (now g) lanes (state .0) (view (now work)) × Linked (now g) (lanes .states) (view (now work)) ⌝ }
+    requires { ⌜ LongEnough (now work) × (column .0 < lanes .columns) × ActionFits (now g) action ⌝ }
     ensures { λ _. ⌜ ActionTraced (now (g .entry)) lanes (column .0) (state .0) (actionOf action) (view (now (work .entry))) (view (now (work .exit))) ⌝ }
 {
     let subject = (action / 2) as usize;
@@ -82,7 +84,7 @@ fn trace_action(
 
 // The actions of the area, each in its column. construct/mod.rs: build_lane_table
 pub fn trace_actions(g: &[u8], lanes: Lanes, state: StateIndex, work: &mut [u64])
-    requires { ⌜ Tracing (now g) lanes (state .0) (view (now work)) × LongEnough (now work) ⌝ }
+    requires { ⌜ Tracing (now g) lanes (state .0) (view (now work)) × Linked (now g) (lanes .states) (view (now work)) × LongEnough (now work) ⌝ }
     ensures { λ _. ⌜ ActionsTraced (now (g .entry)) lanes (state .0) (view (now (work .entry))) (view (now (work .exit))) ⌝ }
 {
     let columns = lanes.columns;

@@ -1,8 +1,7 @@
-// The lane table: state_graph.rs, lane/mod.rs and table/mod.rs. It lies in the work room.
+// The lane table: lane/mod.rs and table/mod.rs. It lies in the work room.
 pub mod action;
 pub mod build;
 pub mod clear;
-pub mod graph;
 pub mod rows;
 pub mod table;
 pub mod trace;

@@ -10,7 +10,6 @@ ghost use Rattle.room.specs.Bounds.{LongEnough, IsState, IsColumn, FewTerminals
 ghost use Rattle.lane_table.specs.Changes.{startEntered, pastEntered};
 ghost use Rattle.lane_table.specs.Traces.{firstsFor, Traceable, ShiftTraced, CloseTraced};
 use super::Lanes;
-use super::graph::leads;
 use super::table::add_lookahead;
 use first::suffix::begin;
 use grammar::items::at_start;
@@ -24,6 +23,7 @@ use marks::visited::was_visited;
 use room::slots::hand_slot;
 use rules::ConflictIndex;
 use rules::StateIndex;
+use state_graph::leads;
 use states::end_entry;
 use states::first_entry;
 use states::item;

@@ -33,7 +33,11 @@ trace-actions-spec =
     μ-loop
     (λ c. (search needs, search needs, search (needs, acting-none), refl))
     (λ c κs. search needs)
-    (λ c κs. search (needs, action-fits))
+    (λ c κs.
+    let at-get-action = c .before in
+    let at-loop-test = at-get-action .before .before in
+    let acting = at-loop-test .before .loop .inv .2 in
+    ((acting .tracing, acting .linked), (search needs, search needs, action-fits _ _ _ _ _ acting _ _ (at-loop-test .loop-test .taken) (at-get-action .get-action .ensures))))
     (λ c. search needs)
     (λ c. search needs)
     loop-again

@@ -8,6 +8,7 @@ use lib.ListN.{length}
 use Rattle.room.specs.Areas.{view}
 use Rattle.room.specs.Bounds.{LongEnough}
 use Rattle.states.proofs.Places.{placed-at}
+use Rattle.state_graph.proofs.Linking.{linked-at}
 use Rattle.lane_table.specs.Traces.{traceOf, leftIn}
 use Rattle.lane_table.proofs.Items.{start-false, not-at-end, past-first}
 use Rattle.lane_table.proofs.Going.{Going, going-visited, going-entered, linked-ready, linked-closed, linked-shifted, linked-falls, going-past, past-closed, past-shifted, past-falls}
@@ -24,7 +25,7 @@ use Rattle.lane_table.proofs.trace.+un_close+un_shift.Lts-un_shift as u
 use Rattle.grammar.proofs.items.at_start.Reads as at-start-reads
 use Rattle.grammar.proofs.items.before_nonterminal.Reads as before-nonterminal-reads
 use Rattle.grammar.proofs.records.symbol.Reads as symbol-reads
-use Rattle.lane_table.proofs.graph.leads.Reads as leads-reads
+use Rattle.state_graph.proofs.leads.Reads as leads-reads
 use Rattle.marks.proofs.successors.add_successor.Reads as add-successor-reads
 use Rattle.lane_table.proofs.trace.enter_past.Reads as enter-past-reads
 use Rattle.lane_table.proofs.trace.enter_start.Reads as enter-start-reads
@@ -199,7 +200,7 @@ pub +un-close+un-shift-spec : {M : Type 1} → statement M
     (λ c. search (needs, past-first))
     (λ c. (search needs, search needs, search needs, search (needs, going-visited), refl))
     (λ c. search needs)
-    (λ c κs. search (needs, placed-at))
+    (λ c κs. ((search needs, search needs, search needs, search needs), (search (needs, placed-at), linked-at _ _ _ _ (c .before .before .loop .inv .3 .ready .linked) (c .before .loop-test .taken))))
     (λ c. search needs)
     (λ c. (search needs, search needs, search needs, search needs, search (needs, shift-passed)))
     (λ c κs. search needs)

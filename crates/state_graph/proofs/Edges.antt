@@ -17,7 +17,7 @@ use Rattle.grammar.specs.Asked.{InRange}
 use Rattle.room.specs.Areas.{Room}
 use Rattle.states.specs.StatesIn.{entryIn, runIn, firstOf, stateIn, PlacedAt}
 use Rattle.states.proofs.States.{state-run}
-use Rattle.lane_table.specs.Graph.{leadsTo}
+use Rattle.state_graph.specs.Graph.{leadsTo}
 
 -- ---- the symbol of a record
 module _ (g : Grammar) (i j x : ℕ) (b r : Bool) (named : x ≡ at g i .symbol) (is : b ≡ isTerminal (at g i)) where

@@ -1,4 +1,4 @@
--- What leads to a state; state_graph.rs.
+-- What leads to a state.
 use Prim.Native.Nat.{ℕ}
 use mathlib.Core.Bool.{Bool, _&&_}
 use mathlib.Core.List.{List, []}

@@ -1,8 +1,8 @@
--- `lane_table::graph::leads_by` meets its contract.
+-- `state_graph::leads_by` meets its contract.
 use borrow.Author.Needs.{needs}
-use Rattle.lane_table.proofs.Leads.{recorded-fits, leads-elsewhere, leads-here}
-use Rattle.lane_table.proofs.graph.leads_by.Statement.{statement}
-use Rattle.lane_table.proofs.graph.leads_by.Tie as tie
+use Rattle.state_graph.proofs.Edges.{recorded-fits, leads-elsewhere, leads-here}
+use Rattle.state_graph.proofs.leads_by.Statement.{statement}
+use Rattle.state_graph.proofs.leads_by.Tie as tie
 
 pub leads-by-spec : {M : Type 1} → statement M
 leads-by-spec =

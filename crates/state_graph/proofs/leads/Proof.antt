@@ -1,4 +1,4 @@
--- `lane_table::graph::leads` meets its contract. The loop's invariant: what is left of the entries says whether one leads to the state. The measure is what is left of them.
+-- `state_graph::leads` meets its contract. The loop's invariant: what is left of the entries says whether one leads to the state. The measure is what is left of them.
 use Prim.Native.Nat.{_≤_, _-_}
 use mathlib.Core.Path.{_≡_}
 use borrow.Author.Needs.{needs}
@@ -7,10 +7,11 @@ use Rattle.base.proofs.EachLeft.{each-some-turn}
 use Rattle.rules.specs.Records.{records}
 use Rattle.room.specs.Areas.{view}
 use Rattle.states.specs.StatesIn.{runIn}
-use Rattle.lane_table.proofs.Leads.{item-recorded, some-found, some-over}
-use Rattle.lane_table.specs.Graph.{leadsTo, symbolAt}
-use Rattle.lane_table.proofs.graph.leads.Statement.{statement}
-use Rattle.lane_table.proofs.graph.leads.Tie as tie
+use Rattle.state_graph.proofs.Edges.{item-recorded, some-found, some-over}
+use Rattle.state_graph.proofs.Linking.{unlinked}
+use Rattle.state_graph.specs.Graph.{leadsTo, symbolAt}
+use Rattle.state_graph.proofs.leads.Statement.{statement}
+use Rattle.state_graph.proofs.leads.Tie as tie
 
 abbrev Inv-loop : tie.InvT-loop
 Inv-loop g work state i first end k₀ k =
@@ -26,6 +27,8 @@ leads-spec =
     (tie.spec
     Inv-loop
     μ-loop
+    (λ c κs. search needs)
+    (λ c. search (needs, unlinked))
     (λ c κs. search needs)
     (λ c κs. search needs)
     (λ c. search needs)
