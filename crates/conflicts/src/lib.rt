@@ -25,7 +25,7 @@ use states::first_entry;
 use states::item;
 
 // One of the entries stands before terminal t.
-fn is_shifted(g: &[u8], t: usize, first: usize, end: usize, work: &[u64]) -> bool
+pub fn is_shifted(g: &[u8], t: usize, first: usize, end: usize, work: &[u64]) -> bool
     requires { ⌜ Readable (now g) (now work) first end ⌝ }
     ensures { λ r. ⌜ r ≡ isShiftedIn (records (now (g .entry))) (view (now (work .entry))) first end t ⌝ }
 {
