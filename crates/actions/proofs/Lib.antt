@@ -1,1 +1,4 @@
+pub mod Numbers
+pub mod Puts
 pub mod Tests
+pub mod Unique

@@ -1,1 +1,2 @@
 pub mod Conflicting
+pub mod Puts

@@ -16,6 +16,8 @@ use lookahead::is_disjoint;
 use room::slots::entry_slot;
 use states::item;
 
+pub mod put;
+
 // The entry at place k is a reduction with terminal t in its set.
 fn reduces_on(g: &[u8], t: usize, k: usize, end: usize, work: &[u64]) -> bool
     requires { ⌜ Readable (now g) (now work) k end × (k < end) × IsToken t ⌝ }

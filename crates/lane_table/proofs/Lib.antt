@@ -1,5 +1,6 @@
 pub mod Acts
 pub mod Builds
+pub mod Built
 pub mod Cells
 pub mod Changed
 pub mod Clears
