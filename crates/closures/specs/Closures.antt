@@ -4,24 +4,25 @@ use mathlib.Core.Path.{_≡_}
 use mathlib.Core.Bool.{Bool, true, false, not}
 use mathlib.Core.List.{List, []}
 use lib.ListN.{length, replicate}
-use Rattle.rules.specs.Limits.{limits}
+use Rattle.rules.specs.Limits.{maxBytes}
 use Rattle.rules.specs.Records.{Grammar, at, records}
 use Rattle.base.specs.Each.{eachFrom}
 use Rattle.base.specs.Pick.{pick}
 use Rattle.base.specs.Loops.{until}
-use Rattle.rules.specs.Grammar.{atStart, nonterminalCount, firstFault}
+use Rattle.rules.specs.Grammar.{atStart, nonterminalCount}
 use Rattle.rules.specs.First.{Sets, setOf, first1}
-use Rattle.rules.specs.States.{Follow, closeItem, itemClosed, closeKernel, closeLeftSides, closureSettled, closureSets}
+use Rattle.rules.specs.States.{Follow, handsOn, closeItem, itemClosed, closeKernel, closeLeftSides, closureSettled, closureSets}
+use Rattle.grammar.specs.Asked.{Faultless}
 use Rattle.room.specs.Areas.{Room, withSets, view}
 use Rattle.room.specs.Bounds.{LongEnough, FewTerminals}
 use Rattle.room.specs.Slots.{closureSlot, handSlot}
-use Rattle.lookahead.specs.Sets.{loadSet, setAt}
+use Rattle.lookahead.specs.Sets.{loadSet, setAt, putSet}
 use Rattle.first.specs.Firsts.{firstsIn}
 use Rattle.states.specs.StatesIn.{runIn}
 
 -- the sets of the grammar's nonterminals
 abbrev pub closuresIn : Grammar → Room → Sets
-closuresIn g r = eachFrom (loadSet (r .sets)) 64 (nonterminalCount g)
+closuresIn g r = eachFrom (loadSet (r .sets)) (closureSlot 0) (nonterminalCount g)
 
 -- ---- what the items of a nonterminal get from an entry: in canonical states by `first1`, in LR(0) states what the entry has
 unfoldable pub followOf : Bool → ℕ → Sets → Follow
@@ -32,6 +33,10 @@ followOf false n firsts = λ xs s. s
 -- with FIRST as it lies in the room
 abbrev pub followIn : Grammar → Bool → ℕ → Room → Follow
 followIn g canonical n r = followOf canonical n (firstsIn g r)
+
+-- with what item i, whose set is that of the slot `from`, hands on as the set at hand
+abbrev pub handedOn : List ℕ → Bool → ℕ → ℕ → ℕ → Room → Room
+handedOn bytes canonical n i from r = putSet handSlot (handsOn (records bytes) (followIn (records bytes) canonical n r) i (setAt r from)) r
 
 -- ---- the left-side record i, with the set of its nonterminal
 unfoldable pub closeLeftSide : Grammar → Follow → ℕ → Sets → Sets
@@ -44,8 +49,8 @@ leftSideClosed g follow sets i = itemClosed g follow sets i (setOf sets (at g i 
 
 -- ---- what closing asks of the grammar's bytes, of the number of its terminals and of the room
 pub record Closable (bytes : List ℕ) (n : ℕ) (work : List ℕ) : Type 0 where
-  pub clean : firstFault limits (records bytes) ≡ length (records bytes)
-  pub short : length bytes ≤ 4096
+  pub clean : Faultless bytes
+  pub short : length bytes ≤ maxBytes
   pub few : FewTerminals n
   pub long : LongEnough work
 

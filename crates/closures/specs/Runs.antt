@@ -10,13 +10,14 @@ use Rattle.base.specs.Lists.{keep}
 use Rattle.rules.specs.Limits.{maxEntries}
 use Rattle.rules.specs.Records.{Grammar, records}
 use Rattle.rules.specs.Tokens.{isEmptySet}
+use Rattle.rules.specs.Grammar.{leftSides}
 use Rattle.rules.specs.First.{Sets}
 use Rattle.rules.specs.States.{State, entryOf, closure}
 use Rattle.room.specs.Areas.{Room, withEntries, withSets, view}
 use Rattle.room.specs.Slots.{closureSlot, entrySlot, handSlot}
 use Rattle.lookahead.specs.Sets.{setAt}
 use Rattle.states.specs.StatesIn.{entryIn, runIn, PlacedRun, writeEntry}
-use Rattle.closures.specs.Closures.{followIn}
+use Rattle.closures.specs.Closures.{closuresIn, followIn}
 use Rattle.closures.specs.declared.Appended.{Appended}
 use Rattle.closures.specs.declared.Appended.the-variants.{End, Full}
 
@@ -42,6 +43,10 @@ pub record AppendedRun (k : ℕ) (es : State) (v q : Room) (r : Appended) : Type
 unfoldable pub presentEntries : Grammar → Sets → List ℕ → State
 unfolding keep isEmptySet entryOf
 presentEntries g sets is = keep (λ e. not (isEmptySet (e .set))) (map (entryOf g sets) is)
+
+-- with the sets as they lie in the room
+abbrev pub presentIn : List ℕ → Room → State
+presentIn bytes r = presentEntries (records bytes) (closuresIn (records bytes) r) (leftSides (records bytes))
 
 -- ---- what closing leaves: q is v but for the entries from a place on, the sets of the closure and the set at hand
 pub record OnlyBehind (v q : Room) (from : ℕ) : Type 0 where

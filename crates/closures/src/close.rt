@@ -1,17 +1,18 @@
 // The closed state: behind its kernel the left-side records of every nonterminal that has a set, ascending.
 ghost use mathlib.Core.Path.{_≡_};
 ghost use mathlib.Core.Bool.{_&&_, not};
-ghost use Prim.Native.Nat.{_+_, _*_, _≤_};
+ghost use Prim.Native.Nat.{_≤_};
 ghost use lib.ListN.{length};
 ghost use Rattle.rules.specs.Limits.{maxEntries};
 ghost use Rattle.rules.specs.Records.{at, records};
 ghost use Rattle.rules.specs.Tokens.{isEmptySet};
-ghost use Rattle.rules.specs.Grammar.{atStart, leftSides, terminalCount, nonterminalCount};
+ghost use Rattle.rules.specs.Grammar.{atStart, terminalCount, nonterminalCount};
 ghost use Rattle.rules.specs.First.{setOf};
+ghost use Rattle.grammar.specs.Asked.{InRange};
 ghost use Rattle.room.specs.Areas.{view};
 ghost use Rattle.states.specs.StatesIn.{PlacedRun};
 ghost use Rattle.closures.specs.Closures.{Closable, closuresIn};
-ghost use Rattle.closures.specs.Runs.{AppendedRun, Closes, presentEntries};
+ghost use Rattle.closures.specs.Runs.{AppendedRun, Closes, presentIn};
 use super::Appended;
 use super::MAX_ENTRIES;
 use super::rounds::closure_sets;
@@ -24,7 +25,7 @@ use states::append_entry;
 
 // Record i is a left side whose nonterminal has a set.
 fn is_present(g: &[u8], n: usize, i: usize, work: &[u64]) -> bool
-    requires { ⌜ Closable (now g) n (now work) × (8 * i + 8 ≤ length (now g)) ⌝ }
+    requires { ⌜ Closable (now g) n (now work) × InRange i (now g) ⌝ }
     ensures { λ r. ⌜ r ≡ (atStart (records (now (g .entry))) i && not (isEmptySet (setOf (closuresIn (records (now (g .entry))) (view (now (work .entry)))) (at (records (now (g .entry))) i .symbol)))) ⌝ }
 {
     if !at_start(g, i) {
@@ -37,7 +38,7 @@ fn is_present(g: &[u8], n: usize, i: usize, work: &[u64]) -> bool
 // The entries of the left-side records that are present are appended at the place `end`.
 fn append_left_sides(g: &[u8], n: usize, end: usize, work: &mut [u64]) -> Appended
     requires { ⌜ Closable (now g) n (now work) × (end ≤ maxEntries) ⌝ }
-    ensures { λ r. ⌜ AppendedRun end (presentEntries (records (now (g .entry))) (closuresIn (records (now (g .entry))) (view (now (work .entry)))) (leftSides (records (now (g .entry))))) (view (now (work .entry))) (view (now (work .exit))) r ⌝ }
+    ensures { λ r. ⌜ AppendedRun end (presentIn (now (g .entry)) (view (now (work .entry)))) (view (now (work .entry))) (view (now (work .exit))) r ⌝ }
 {
     let count = record_count(g);
     let mut to = end;

@@ -1,14 +1,14 @@
 // An item that hands on its set to the items of the nonterminal behind its dot.
 ghost use mathlib.Core.Path.{_≡_};
-ghost use Prim.Native.Nat.{_+_, _*_, _≤_, _<_};
-ghost use lib.ListN.{length};
+ghost use Prim.Native.Nat.{_+_, _<_};
 ghost use Rattle.rules.specs.Records.{records};
-ghost use Rattle.rules.specs.States.{closes, handsOn};
+ghost use Rattle.rules.specs.States.{closes};
+ghost use Rattle.grammar.specs.Asked.{InRange};
 ghost use Rattle.room.specs.Areas.{view};
 ghost use Rattle.room.specs.Bounds.{LongEnough, IsSlot};
 ghost use Rattle.room.specs.Slots.{handSlot};
-ghost use Rattle.lookahead.specs.Sets.{setAt, putSet};
-ghost use Rattle.closures.specs.Closures.{Closable, ItemCloses, followIn};
+ghost use Rattle.lookahead.specs.Sets.{setAt};
+ghost use Rattle.closures.specs.Closures.{Closable, ItemCloses, handedOn};
 use first::suffix::first1;
 use grammar::items::at_end;
 use grammar::items::symbol_behind;
@@ -21,8 +21,8 @@ use room::slots::hand_slot;
 
 // What item i, with the set of the slot `from`, hands on to the items of the nonterminal behind its dot becomes the set at hand.
 fn hand_on(g: &[u8], canonical: bool, n: usize, i: usize, work: &mut [u64], from: usize)
-    requires { ⌜ Closable (now g) n (now work) × (8 * (i + 1) + 8 ≤ length (now g)) × (from < handSlot) ⌝ }
-    ensures { λ _. ⌜ view (now (work .exit)) ≡ putSet handSlot (handsOn (records (now (g .entry))) (followIn (records (now (g .entry))) canonical n (view (now (work .entry)))) i (setAt (view (now (work .entry))) from)) (view (now (work .entry))) ⌝ }
+    requires { ⌜ Closable (now g) n (now work) × InRange (i + 1) (now g) × (from < handSlot) ⌝ }
+    ensures { λ _. ⌜ view (now (work .exit)) ≡ handedOn (now (g .entry)) canonical n i from (view (now (work .entry))) ⌝ }
 {
     let hand = hand_slot();
     if canonical {
@@ -34,7 +34,7 @@ fn hand_on(g: &[u8], canonical: bool, n: usize, i: usize, work: &mut [u64], from
 
 // Item i, with the set of the slot, has a nonterminal behind its dot; the empty set means that the item is absent.
 fn closes(g: &[u8], i: usize, work: &[u64], slot: usize) -> bool
-    requires { ⌜ LongEnough (now work) × (8 * i + 8 ≤ length (now g)) × IsSlot slot ⌝ }
+    requires { ⌜ LongEnough (now work) × InRange i (now g) × IsSlot slot ⌝ }
     ensures { λ r. ⌜ r ≡ closes (records (now (g .entry))) i (setAt (view (now (work .entry))) slot) ⌝ }
 {
     if is_empty(work, slot) {
@@ -56,7 +56,7 @@ pub fn close_item(
     work: &mut [u64],
     from: usize,
 ) -> bool
-    requires { ⌜ Closable (now g) n (now work) × (8 * i + 8 ≤ length (now g)) × (from < handSlot) ⌝ }
+    requires { ⌜ Closable (now g) n (now work) × InRange i (now g) × (from < handSlot) ⌝ }
     ensures { λ r. ⌜ ItemCloses (now (g .entry)) canonical n i from (now (work .entry)) (now (work .exit)) r ⌝ }
 {
     if !closes(g, i, work, from) {

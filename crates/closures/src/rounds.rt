@@ -2,8 +2,10 @@
 ghost use mathlib.Core.Path.{_≡_};
 ghost use Prim.Native.Nat.{_+_, _*_, _≤_};
 ghost use lib.ListN.{length};
+ghost use Rattle.rules.specs.Limits.{maxNonterminals};
 ghost use Rattle.rules.specs.Records.{records};
 ghost use Rattle.rules.specs.Grammar.{terminalCount, nonterminalCount};
+ghost use Rattle.grammar.specs.Asked.{InRange};
 ghost use Rattle.room.specs.Areas.{view};
 ghost use Rattle.states.specs.StatesIn.{PlacedRun};
 ghost use Rattle.closures.specs.Closures.{Closable, LeftSideCloses, LeftSidesClose, RoundsClose, KernelCloses, ClosuresCleared, ClosureFound};
@@ -20,7 +22,7 @@ use states::item;
 
 // Record i, if it is a left side, hands on the set of its nonterminal; says whether something was lacking.
 fn close_left_side(g: &[u8], canonical: bool, n: usize, i: usize, work: &mut [u64]) -> bool
-    requires { ⌜ Closable (now g) n (now work) × (8 * i + 8 ≤ length (now g)) ⌝ }
+    requires { ⌜ Closable (now g) n (now work) × InRange i (now g) ⌝ }
     ensures { λ r. ⌜ LeftSideCloses (now (g .entry)) canonical n i (now (work .entry)) (now (work .exit)) r ⌝ }
 {
     if !at_start(g, i) {
@@ -46,7 +48,7 @@ fn round(g: &[u8], canonical: bool, n: usize, work: &mut [u64]) -> bool
 
 // Rounds until one finds nothing that is lacking, at most m (n + 1) of them.
 fn rounds(g: &[u8], canonical: bool, n: usize, m: usize, work: &mut [u64])
-    requires { ⌜ Closable (now g) n (now work) × (m ≤ 64) ⌝ }
+    requires { ⌜ Closable (now g) n (now work) × (m ≤ maxNonterminals) ⌝ }
     ensures { λ _. ⌜ RoundsClose (now (g .entry)) canonical n (m * (n + 1)) (now (work .entry)) (now (work .exit)) ⌝ }
 {
     let bound = m * (n + 1);

@@ -8,7 +8,7 @@ use lib.Dec.{ltb}
 use Rattle.rules.specs.Limits.{limits, maxEntries}
 use Rattle.rules.specs.Records.{records}
 use Rattle.rules.specs.Tokens.{TokenSet}
-use Rattle.rules.specs.States.{State, closure, kernelOver, expandNext}
+use Rattle.rules.specs.States.{State, closure, expandNext}
 use Rattle.room.specs.Areas.{Room, view, withEntries, withFirstEntries, withSets}
 use Rattle.room.specs.Slots.{closureSlot, entrySlot, handSlot}
 use Rattle.lookahead.specs.Sets.{setAt}
@@ -17,13 +17,13 @@ use Rattle.closures.specs.declared.Appended.{Appended}
 use Rattle.closures.specs.Closures.{followIn}
 use Rattle.closures.specs.Runs.{AppendedRun}
 use Rattle.lr.specs.declared.Built.{Built}
-use Rattle.lr.specs.Kernels.{parentOf, parentSymbol, kernelIn}
+use Rattle.lr.specs.Kernels.{ownKernel, kernelIn}
 use Rattle.lr.specs.Expansions.{StillParented}
 use Rattle.collection.specs.Collections.{startOf, collectionIn, collectedTo, OnlyCollected}
 
 -- ---- the kernel of state s was appended behind the states before it: that of a state with a parent, and that of any state
 abbrev pub OwnAppended : List ℕ → ℕ → Room → Room → Appended → Type 0
-OwnAppended bytes s v q r = AppendedRun (firstOf v s) (kernelOver (records bytes) (parentSymbol v s) (stateIn v (parentOf v s))) v q r
+OwnAppended bytes s v q r = AppendedRun (firstOf v s) (ownKernel bytes v s) v q r
 
 abbrev pub KernelAppended : List ℕ → TokenSet → ℕ → Room → Room → Appended → Type 0
 KernelAppended bytes start s v q r = AppendedRun (firstOf v s) (kernelIn (records bytes) start v s) v q r

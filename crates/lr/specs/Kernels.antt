@@ -18,7 +18,7 @@ use Rattle.rules.specs.States.{Entry, State, kernelOver, sameKernel}
 use Rattle.room.specs.Areas.{Room, view}
 use Rattle.room.specs.Bounds.{LongEnough}
 use Rattle.packed.specs.Packed.{low, middle, high}
-use Rattle.states.specs.StatesIn.{entryIn, stateIn, PlacedAt, Placed}
+use Rattle.states.specs.StatesIn.{entryIn, runIn, stateIn, PlacedAt, Placed}
 
 -- a symbol by its kind, 0 nonterminal and 1 terminal, and its number
 unfoldable pub symbolBy : ℕ → ℕ → Symbol
@@ -45,6 +45,16 @@ parentOf r t = low (parentWord r t)
 
 abbrev pub parentSymbol : Room → ℕ → Symbol
 parentSymbol r t = symbolBy (high (parentWord r t)) (middle (parentWord r t))
+
+-- ---- what the entries of a run, and those of state s, become over a symbol; and the kernel of a state t that has a parent
+abbrev pub runKernel : List ℕ → ℕ → ℕ → Room → ℕ → ℕ → State
+runKernel bytes kind x r first end = kernelOver (records bytes) (symbolBy kind x) (runIn r first end)
+
+abbrev pub stateKernel : List ℕ → ℕ → ℕ → Room → ℕ → State
+stateKernel bytes kind x r s = kernelOver (records bytes) (symbolBy kind x) (stateIn r s)
+
+abbrev pub ownKernel : List ℕ → Room → ℕ → State
+ownKernel bytes r t = kernelOver (records bytes) (parentSymbol r t) (stateIn r (parentOf r t))
 
 -- state 0 begins with the set s
 unfoldable pub kernelIn : Grammar → TokenSet → Room → ℕ → State
@@ -78,4 +88,4 @@ pub record Comparable (bytes : List ℕ) (kind x s t : ℕ) (work : List ℕ) : 
 
 -- the place of that kernel among those of all states, whatever set state 0 begins with
 pub record KernelPlace (bytes : List ℕ) (kind x s count : ℕ) (work : List ℕ) (place : ℕ) : Type 0 where
-  pub found : (start : TokenSet) → place ≡ placeOf (sameKernel (kernelOver (records bytes) (symbolBy kind x) (stateIn (view work) s))) (kernelsIn (records bytes) start (view work) count)
+  pub found : (start : TokenSet) → place ≡ placeOf (sameKernel (stateKernel bytes kind x (view work) s)) (kernelsIn (records bytes) start (view work) count)

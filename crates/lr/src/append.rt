@@ -1,14 +1,13 @@
 // Kernels written behind the last state.
 ghost use Prim.Native.Nat.{_≤_};
 ghost use lib.ListN.{length};
-ghost use Rattle.rules.specs.Limits.{maxEntries};
+ghost use Rattle.rules.specs.Limits.{maxBytes, maxEntries};
 ghost use Rattle.rules.specs.Records.{records};
-ghost use Rattle.rules.specs.States.{kernelOver};
 ghost use Rattle.room.specs.Areas.{view};
 ghost use Rattle.room.specs.Bounds.{LongEnough};
-ghost use Rattle.states.specs.StatesIn.{runIn, PlacedRun};
+ghost use Rattle.states.specs.StatesIn.{PlacedRun};
 ghost use Rattle.closures.specs.Runs.{AppendedRun};
-ghost use Rattle.lr.specs.Kernels.{symbolBy};
+ghost use Rattle.lr.specs.Kernels.{runKernel};
 use super::kernels::before;
 use closures::Appended;
 use closures::MAX_ENTRIES;
@@ -26,9 +25,9 @@ pub fn append_kernel(
     end: usize,
     work: &mut [u64],
 ) -> Appended
-    requires { ⌜ LongEnough (now work) × (length (now g) ≤ 4096) × (last ≤ end) × (end ≤ maxEntries) ⌝ }
+    requires { ⌜ LongEnough (now work) × (length (now g) ≤ maxBytes) × (last ≤ end) × (end ≤ maxEntries) ⌝ }
     requires { ⌜ PlacedRun (length (records (now g))) (view (now work)) first last ⌝ }
-    ensures { λ r. ⌜ AppendedRun end (kernelOver (records (now (g .entry))) (symbolBy kind x) (runIn (view (now (work .entry))) first last)) (view (now (work .entry))) (view (now (work .exit))) r ⌝ }
+    ensures { λ r. ⌜ AppendedRun end (runKernel (now (g .entry)) kind x (view (now (work .entry))) first last) (view (now (work .entry))) (view (now (work .exit))) r ⌝ }
 {
     let mut to = end;
     let mut next = first;

@@ -1,14 +1,15 @@
 // Kernels and their comparison: kernel_set.rs. A symbol is its kind, 0 nonterminal and 1 terminal, and its number.
 ghost use mathlib.Core.Path.{_≡_};
-ghost use Prim.Native.Nat.{_+_, _*_, _≤_, _<_};
+ghost use Prim.Native.Nat.{_+_, _<_};
 ghost use lib.ListN.{length};
 ghost use Rattle.rules.specs.Records.{records};
 ghost use Rattle.rules.specs.Grammar.{isBefore};
-ghost use Rattle.rules.specs.States.{kernelOver, sameKernel};
+ghost use Rattle.rules.specs.States.{sameKernel};
+ghost use Rattle.grammar.specs.Asked.{InRange};
 ghost use Rattle.room.specs.Areas.{view};
 ghost use Rattle.room.specs.Bounds.{LongEnough, IsEntry, IsState};
-ghost use Rattle.states.specs.StatesIn.{entryIn, runIn, stateIn, PlacedRun};
-ghost use Rattle.lr.specs.Kernels.{symbolBy, firstBefore, sameEntry, parentOf, parentSymbol, Parented, HasKernel, Comparable, KernelPlace};
+ghost use Rattle.states.specs.StatesIn.{entryIn, PlacedRun};
+ghost use Rattle.lr.specs.Kernels.{symbolBy, firstBefore, sameEntry, runKernel, stateKernel, ownKernel, Parented, HasKernel, Comparable, KernelPlace};
 use grammar::items::before_nonterminal;
 use grammar::items::before_terminal;
 use lookahead::is_equal;
@@ -24,7 +25,7 @@ use states::item;
 
 // The symbol stands directly behind the dot of item i.
 pub fn before(g: &[u8], kind: usize, x: usize, i: usize) -> bool
-    requires { ⌜ 8 * i + 8 ≤ length (now g) ⌝ }
+    requires { ⌜ InRange i (now g) ⌝ }
     ensures { λ r. ⌜ r ≡ isBefore (records (now (g .entry))) (symbolBy kind x) i ⌝ }
 {
     if kind == 1 {
@@ -70,7 +71,7 @@ fn same_kernel(
     last: usize,
 ) -> bool
     requires { ⌜ LongEnough (now work) × PlacedRun (length (records (now g))) (view (now work)) first end × PlacedRun (length (records (now g))) (view (now work)) other last ⌝ }
-    ensures { λ r. ⌜ r ≡ sameKernel (kernelOver (records (now (g .entry))) (symbolBy kind x) (runIn (view (now (work .entry))) first end)) (kernelOver (records (now (g .entry))) (symbolBy kind x) (runIn (view (now (work .entry))) other last)) ⌝ }
+    ensures { λ r. ⌜ r ≡ sameKernel (runKernel (now (g .entry)) kind x (view (now (work .entry))) first end) (runKernel (now (g .entry)) kind x (view (now (work .entry))) other last) ⌝ }
 {
     let mut j = find_before(g, kind, x, work, first, end);
     let mut k = find_before(g, kind, x, work, other, last);
@@ -90,7 +91,7 @@ fn same_kernel(
 // State t has the kernel that the entries of state s become over the symbol. Only a parent's symbol that is the same is looked into.
 fn has_kernel(g: &[u8], kind: usize, x: usize, work: &[u64], s: StateIndex, t: StateIndex) -> bool
     requires { ⌜ Comparable (now g) kind x (s .0) (t .0) (now work) ⌝ }
-    ensures { λ r. ⌜ r ≡ sameKernel (kernelOver (records (now (g .entry))) (symbolBy kind x) (stateIn (view (now (work .entry))) (s .0))) (kernelOver (records (now (g .entry))) (parentSymbol (view (now (work .entry))) (t .0)) (stateIn (view (now (work .entry))) (parentOf (view (now (work .entry))) (t .0)))) ⌝ }
+    ensures { λ r. ⌜ r ≡ sameKernel (stateKernel (now (g .entry)) kind x (view (now (work .entry))) (s .0)) (ownKernel (now (g .entry)) (view (now (work .entry))) (t .0)) ⌝ }
 {
     let parent = get_parent(work, t);
     if parent_symbol(parent) != x {

@@ -3,9 +3,9 @@ ghost use mathlib.Core.Path.{_≡_};
 ghost use lib.ListN.{length};
 ghost use Rattle.base.specs.Pick.{pick};
 ghost use Rattle.rules.specs.Records.{records};
+ghost use Rattle.grammar.specs.Asked.{InRange};
 ghost use Rattle.room.specs.Areas.{view};
 ghost use Rattle.room.specs.Bounds.{LongEnough, IsEntry, IsState};
-ghost use Prim.Native.Nat.{_+_, _*_, _≤_};
 ghost use Rattle.states.specs.StatesIn.{entryIn, PlacedRun, putNext};
 ghost use Rattle.lr.specs.Kernels.{symbolBy, standsBefore};
 ghost use Rattle.lr.specs.Links.{Leads};
@@ -16,7 +16,7 @@ use states::put_next;
 
 // The entry at place k leads to state t if it stands before the symbol.
 fn lead_at(g: &[u8], kind: usize, x: usize, k: usize, t: StateIndex, work: &mut [u64])
-    requires { ⌜ LongEnough (now work) × IsEntry k × IsState t × (8 * entryIn (view (now work)) k .item + 8 ≤ length (now g)) ⌝ }
+    requires { ⌜ LongEnough (now work) × IsEntry k × IsState t × InRange (entryIn (view (now work)) k .item) (now g) ⌝ }
     ensures { λ _. ⌜ view (now (work .exit)) ≡ pick (standsBefore (records (now (g .entry))) (symbolBy kind x) (view (now (work .entry))) k) (putNext k t (view (now (work .entry)))) (view (now (work .entry))) ⌝ }
 {
     let i = item(work, k);
