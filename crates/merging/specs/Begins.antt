@@ -3,7 +3,7 @@ use Prim.Native.Nat.{ℕ}
 use mathlib.Core.Path.{_≡_}
 use mathlib.Core.List.{[]}
 use Rattle.rules.specs.Merge.{mergeBegun}
-use Rattle.room.specs.Areas.{Room, putOrigin, putHead}
+use Rattle.room.specs.Areas.{Room, withOrigins, withHeads, withWalked, putOrigin, putHead}
 use Rattle.states.specs.StatesIn.{statesIn}
 use Rattle.groups.specs.MergeIn.{mergeIn}
 
@@ -13,7 +13,7 @@ begunAt s r = putHead s s (putOrigin s s r)
 
 -- the areas that the beginning leaves
 abbrev pub besideMerge : Room → Room
-besideMerge r = record { entries = r .entries; firstEntries = r .firstEntries; visited = r .visited; entered = r .entered; successors = r .successors; origins = []; heads = []; walked = []; actions = r .actions; sets = r .sets; rest = r .rest }
+besideMerge r = withOrigins [] (withHeads [] (withWalked [] r))
 
 -- a merge of the states begins in q, where v was the room before
 pub record Begun (count : ℕ) (v q : Room) : Type 0 where
