@@ -41,7 +41,9 @@ fn has_conflict(g: &[u8], n: usize, s: usize, count: usize, work: &[u64]) -> boo
     conflicts_at(g, n, StateIndex(s), work) != 0
 }
 
-// The lowest state that fails, by the least sets in the room; the number of the states if none does.
+// The lowest state that fails, by the least sets in the room; the number of the states if none does. Three loops, over the states, the
+// entries of each and the tokens of each reduction: the first token that is lacking leaves all three with the state at hand, and so does
+// a conflict of the state.
 fn first_failing(g: &[u8], n: usize, count: usize, work: &[u64]) -> usize
     requires { ⌜ LongEnough (now work) × Ready (now g) count (view (now work)) × (n ≡ terminalCount (records (now g))) ⌝ }
     ensures { λ r. ⌜ r ≡ lowestFailing (now (g .entry)) count (now (work .entry)) ⌝ }
