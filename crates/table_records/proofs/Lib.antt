@@ -1,4 +1,5 @@
 pub mod Entries
+pub mod Results
 pub mod Rooms
 pub mod Searches
 pub mod States

@@ -1,3 +1,4 @@
 pub mod Asked
 pub mod Records
+pub mod Result
 pub mod Written
