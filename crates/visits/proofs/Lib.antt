@@ -1,0 +1,4 @@
+pub mod Frames
+pub mod Resolving
+pub mod Turns
+pub mod Visiting
