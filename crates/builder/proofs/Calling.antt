@@ -1,0 +1,112 @@
+-- The whole call: refusals 1 to 8, and what is left in the work room.
+use Prim.Native.Nat.{ℕ, _*_, _<_, _≤_}
+use mathlib.Core.Path.{_≡_, refl, sym, ap, _∙_}
+use mathlib.Core.Bool.{Bool, true, false}
+use mathlib.Core.List.{List, _++_}
+use native.Mathlib.Omega.{arith}
+use lib.ListN.{length, drop, replicate}
+use lib.Dec.{ltb}
+use lib.Seq.{drop-at}
+use borrow.Author.Tests.{lt-ltb, le-ltb}
+use Rattle.base.specs.Fill.{zeros}
+use Rattle.base.specs.Pick.{pick}
+use Rattle.base.proofs.Fills.{length-zeros}
+use Rattle.rules.specs.Limits.{limits, workSize}
+use Rattle.rules.specs.Records.{records}
+use Rattle.rules.specs.Grammar.{grammarAnswer, terminalCount, nonterminalCount}
+use Rattle.rules.specs.First.{firstSets}
+use Rattle.rules.specs.Rooms.{cleared}
+use Rattle.rules.specs.Build.{BuildResult, constructed, notBuilt, resultOf, buildCoded, build}
+use Rattle.rules.specs.declared.GrammarRefusal.{GrammarRefusal}
+use Rattle.rules.specs.declared.GrammarAnswer.{GrammarAnswer}
+use Rattle.rules.specs.declared.GrammarAnswer.the-variants.{Coded, Refused}
+use Rattle.rules.specs.declared.BuildRefusal.the-variants.{Mode, WorkRoom, Grammar as NoGrammar}
+use Rattle.rules.specs.declared.BuildAnswer.{BuildAnswer}
+use Rattle.rules.specs.declared.BuildAnswer.the-variants.{Built, NotBuilt}
+use Rattle.rules.proofs.Rooms.{built-keeps-rest}
+use Rattle.grammar.proofs.Coded.{coded-some, coded-short, coded-whole, coded-faultless, terminal-count-below, nonterminal-count-below}
+use Rattle.room.specs.Areas.{view}
+use Rattle.room.specs.Bounds.{LongEnough}
+use Rattle.room.proofs.Clearing.{view-cleared, cleared-same}
+use Rattle.first.specs.Asked.{Counted}
+use Rattle.first.specs.Firsts.{firstsIn, FirstsFound}
+use Rattle.first.proofs.Loads.{blank-firsts}
+use Rattle.collection.specs.Collections.{Collectable}
+use Rattle.table_records.specs.Result.{gaveIn}
+use Rattle.builder.specs.Results.{Gives}
+
+-- ---- clearing a cleared room changes nothing
+cleared-twice : (work : List ℕ) → cleared limits (cleared limits work) ≡ cleared limits work
+unfolding cleared limits
+cleared-twice work = ap (λ (l : List ℕ). zeros workSize ++ l) (drop-at (zeros workSize) (drop workSize work) workSize (length-zeros workSize))
+
+-- ---- refusals 1 and 2, and then what the grammar says
+module _ (mode : ℕ) (bytes table work : List ℕ) where
+  abbrev from3 : GrammarAnswer → BuildResult
+  from3 answer = buildCoded limits mode bytes answer table (cleared limits work)
+
+  abbrev from2 : Bool → BuildResult
+  from2 short = pick short (notBuilt WorkRoom table work) (from3 (grammarAnswer limits bytes))
+
+  abbrev from1 : Bool → BuildResult
+  from1 other = pick other (notBuilt Mode table work) (from2 (ltb (length work) workSize))
+
+  pub bad-mode : 1 < mode → gaveIn (NotBuilt Mode) table work ≡ build limits mode bytes table work
+  unfolding build limits notBuilt
+  bad-mode h = sym (ap from1 (lt-ltb 1 mode h))
+
+  module _ (known : mode ≤ 1) where
+    pub short-room : length work < workSize → gaveIn (NotBuilt WorkRoom) table work ≡ build limits mode bytes table work
+    unfolding build limits notBuilt
+    short-room h = sym (ap from1 (le-ltb 1 mode known) ∙ ap from2 (lt-ltb (length work) workSize h))
+
+    module _ (long : workSize ≤ length work) where
+      by-grammar : build limits mode bytes table work ≡ from3 (grammarAnswer limits bytes)
+      unfolding build limits
+      by-grammar = ap from1 (le-ltb 1 mode known) ∙ ap from2 (le-ltb (length work) workSize long)
+
+      pub no-grammar : (a : GrammarAnswer) (why : GrammarRefusal) (after : List ℕ) → a ≡ grammarAnswer limits bytes → a ≡ Refused why → after ≡ cleared limits work
+          → gaveIn (NotBuilt (NoGrammar why)) table after ≡ build limits mode bytes table work
+      unfolding buildCoded notBuilt
+      no-grammar a why after is e c = ap (gaveIn (NotBuilt (NoGrammar why)) table) c ∙ sym (by-grammar ∙ ap from3 (sym is ∙ e))
+
+      pub table-built : (a : GrammarAnswer) → a ≡ grammarAnswer limits bytes → a ≡ Coded → (answer : BuildAnswer) (after between left last : List ℕ)
+          → Gives (resultOf (records bytes) (constructed limits (records bytes) mode) table) answer after
+          → between ≡ cleared limits work → view left .rest ≡ view between .rest → last ≡ cleared limits left
+          → gaveIn answer after last ≡ build limits mode bytes table work
+      unfolding buildCoded
+      table-built a is e answer after between left last writes first kept end =
+          let same : last ≡ cleared limits work = end ∙ cleared-same left between kept ∙ ap (cleared limits) first ∙ cleared-twice work in
+          ap (gaveIn answer after) same ∙ writes (cleared limits work) ∙ sym (by-grammar ∙ ap from3 (sym is ∙ e))
+
+-- ---- a cleared room and a coded grammar are what the construction asks
+pub known-coded : (bytes : List ℕ) (a : GrammarAnswer) → a ≡ grammarAnswer limits bytes → a ≡ Coded → grammarAnswer limits bytes ≡ Coded
+known-coded bytes a is e = sym is ∙ e
+
+pub no-firsts : (bytes work begun : List ℕ) → work ≡ cleared limits begun → firstsIn (records bytes) (view work) ≡ replicate (nonterminalCount (records bytes)) 0
+no-firsts bytes work begun e = rw (e, view-cleared begun) (blank-firsts (records bytes) (drop 8192 begun))
+
+module _ (bytes : List ℕ) (n m : ℕ) (coded : grammarAnswer limits bytes ≡ Coded) (are-n : n ≡ terminalCount (records bytes)) (are-m : m ≡ nonterminalCount (records bytes)) where
+  pub numbers-counted : Counted bytes n m
+  numbers-counted = record {
+    few-terminals = omega (arith, terminal-count-below (records bytes) (coded-faultless bytes coded));
+    terminals = are-n;
+    few-nonterminals = omega (arith, nonterminal-count-below (records bytes) (coded-faultless bytes coded));
+    nonterminals = are-m;
+  }
+
+  pub no-firsts-yet : (work : List ℕ) → firstsIn (records bytes) (view work) ≡ replicate (nonterminalCount (records bytes)) 0 → firstsIn (records bytes) (view work) ≡ replicate m 0
+  no-firsts-yet work none = none ∙ ap (λ k. replicate k 0) (sym are-m)
+
+  pub collectable : (size : ℕ) (work : List ℕ) → workSize ≤ size → length work ≡ size → Collectable bytes n m work
+  collectable size work long same = record {
+    closable = record { clean = coded-faultless bytes coded; short = coded-short bytes coded; few = omega (arith, terminal-count-below (records bytes) (coded-faultless bytes coded)); long = omega arith };
+    counted = numbers-counted;
+    some = omega (arith, coded-some bytes coded, coded-whole bytes coded);
+  }
+
+-- ---- the records of a built table lie within the room
+pub built-fits : (mode : ℕ) (bytes table work : List ℕ) (answer : BuildAnswer) (after left : List ℕ) → gaveIn answer after left ≡ build limits mode bytes table work
+    → length after ≡ length table → (states count : ℕ) → answer ≡ Built states count → 8 * count ≤ length after
+built-fits mode bytes table work answer after left e same states count is =
+    omega (arith, same, built-keeps-rest limits mode bytes table work states count (sym (ap (λ (r : BuildResult). r .answer) e) ∙ is) .1)

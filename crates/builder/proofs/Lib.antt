@@ -1,0 +1,4 @@
+pub mod Building
+pub mod Calling
+pub mod Checking
+pub mod Unique
