@@ -47,22 +47,22 @@ module _ (bytes : List ℕ) (lanes : Lanes) (c s t hand : ℕ) (w : List ℕ) (p
       }
 
 -- ---- a reduction
-module _ (bytes : List ℕ) (lanes : Lanes) (c s i hand : ℕ) (w w₁ : List ℕ) (p q : Room) (ready : Traceable bytes lanes c s i (view w)) (fits : LongEnough w) (same : length w₁ ≡ length w)
-    (clears : VisitsCleared (lanes .states) (view w) (view w₁)) (at-hand : hand ≡ handSlot) (put : p ≡ putSet hand 0 (view w₁)) (enters : q ≡ tokensEntered s c (setAt p hand) p) where
+module _ (bytes : List ℕ) (lanes : Lanes) (c s i hand n : ℕ) (w w₁ : List ℕ) (p q : Room) (ready : Traceable bytes lanes c s i (view w)) (fits : LongEnough w) (same : length w₁ ≡ length w)
+    (clears : VisitsCleared n (view w) (view w₁)) (at-hand : hand ≡ handSlot) (put : p ≡ putSet hand 0 (view w₁)) (enters : q ≡ tokensEntered s c (setAt p hand) p) where
   entered : q ≡ handEntered s c 0 (view w₁)
   entered = entered-by w₁ p q hand s c 0 (omega arith) at-hand put enters
 
   begun-only : OnlyLanes (view w) q
-  begun-only = only-both (view w) (view w₁) q (cleared-only (lanes .states) (view w) (view w₁) clears) (rw entered (hand-enters s c 0 (view w₁)))
+  begun-only = only-both (view w) (view w₁) q (cleared-only n (view w) (view w₁) clears) (rw entered (hand-enters s c 0 (view w₁)))
 
   pub reduce-ready : Traceable bytes lanes c s i q
   reduce-ready = ready-kept bytes lanes c s i (view w) q begun-only ready
 
-  begins : traceOf lanes q ≡ traceBegun (records bytes) (firstsFor bytes (view w)) (statesOf lanes (view w)) s c i (tableOf lanes (view w))
-  begins =
+  begins : n ≡ lanes .states → traceOf lanes q ≡ traceBegun (records bytes) (firstsFor bytes (view w)) (statesOf lanes (view w)) s c i (tableOf lanes (view w))
+  begins all =
       ap (traceOf lanes) entered
       ∙ entered-by-hand (view w₁) (lanes .states) (lanes .columns) s c (ready .state) (ready .placed .few) (ready .column) (ready .narrow) (view-lengths w₁ (omega arith)) 0
-      ∙ ap (onTable (enter s c 0)) (cleared-trace (lanes .states) (view w) (view w₁) clears (lanes .columns))
+      ∙ ap (onTable (enter s c 0)) (cleared-trace (lanes .states) (view w) (view w₁) (rw all at clears) (lanes .columns))
       ∙ ap (λ (n : ℕ). record { table = enter s c 0 (tableOf lanes (view w)); visited = replicate n 0 }) (sym (states-length (view w) (lanes .states)))
 
   states : statesOf lanes q ≡ statesOf lanes (view w)
@@ -71,11 +71,11 @@ module _ (bytes : List ℕ) (lanes : Lanes) (c s i hand : ℕ) (w w₁ : List �
   firsts : firstsFor bytes q ≡ firstsFor bytes (view w)
   firsts = firsts-kept (view w) q begun-only (records bytes) (ready .clean)
 
-  module _ (z : Room) (b : Bool) (starts : b ≡ atStart (records bytes) i) where
+  module _ (z : Room) (b : Bool) (all : n ≡ lanes .states) (starts : b ≡ atStart (records bytes) i) where
     pub reduce-closed : b ≡ true → CloseTraced bytes lanes c s i q z → ActionTraced bytes lanes c s (reduce i) (view w) z
     reduce-closed e went = record {
       table =
-          ap (λ (x : Trace). x .table) ((rw (firsts, states, begins) at (went .trace)) ∙ sym (back-closed (records bytes) (firstsFor bytes (view w)) (statesOf lanes (view w)) c s i _ (sym starts ∙ e)))
+          ap (λ (x : Trace). x .table) ((rw (firsts, states, begins all) at (went .trace)) ∙ sym (back-closed (records bytes) (firstsFor bytes (view w)) (statesOf lanes (view w)) c s i _ (sym starts ∙ e)))
           ∙ sym (action-goes (records bytes) (firstsFor bytes (view w)) (statesOf lanes (view w)) s c i (tableOf lanes (view w)));
       only = only-both (view w) q z begun-only (went .only);
     }
@@ -83,7 +83,7 @@ module _ (bytes : List ℕ) (lanes : Lanes) (c s i hand : ℕ) (w w₁ : List �
     pub reduce-shifted : b ≡ false → ShiftTraced bytes lanes c s i q z → ActionTraced bytes lanes c s (reduce i) (view w) z
     reduce-shifted e went = record {
       table =
-          ap (λ (x : Trace). x .table) ((rw (firsts, states, begins) at (went .trace)) ∙ sym (back-shifted (records bytes) (firstsFor bytes (view w)) (statesOf lanes (view w)) c s i _ (sym starts ∙ e)))
+          ap (λ (x : Trace). x .table) ((rw (firsts, states, begins all) at (went .trace)) ∙ sym (back-shifted (records bytes) (firstsFor bytes (view w)) (statesOf lanes (view w)) c s i _ (sym starts ∙ e)))
           ∙ sym (action-goes (records bytes) (firstsFor bytes (view w)) (statesOf lanes (view w)) s c i (tableOf lanes (view w)));
       only = only-both (view w) q z begun-only (went .only);
     }
