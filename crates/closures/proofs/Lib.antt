@@ -4,4 +4,5 @@ pub mod Handing
 pub mod Kernels
 pub mod LeftSides
 pub mod Present
+pub mod Unique
 pub mod Written

@@ -8,7 +8,6 @@ use lib.ListN.{length}
 use lib.Seq.{getD-set-same}
 use borrow.Author.Tests.{lt-ltb, le-ltb}
 use Rattle.base.specs.Each.{eachFrom}
-use Rattle.base.proofs.EachLeft.{each-length}
 use Rattle.rules.specs.declared.BuildRefusal.{BuildRefusal}
 use Rattle.rules.specs.Limits.{Limits, limits}
 use Rattle.rules.specs.Records.{Grammar, records}
@@ -25,6 +24,7 @@ use Rattle.lr.specs.declared.Built.{Built}
 use Rattle.lr.specs.declared.Built.the-variants.{States, Refused}
 use Rattle.lr.specs.Kernels.{kernelIn, kernelsIn, Parented}
 use Rattle.lr.specs.Expansions.{StillParented}
+use Rattle.lr.proofs.Growing.{kernels-length}
 use Rattle.collection.specs.Collections.{Collectable, startOf, allStates, collectionIn, collectedTo, statesTo, PlacedTo, OnlyCollected, StatesBuilt}
 use Rattle.collection.specs.Expands.{ExpandsNext}
 use Rattle.collection.proofs.Frames.{only-none, only-both, only-placed, follow-same}
@@ -46,9 +46,9 @@ module _ (g : Grammar) (start : TokenSet) (r : Room) (closed count : ℕ) where
   unfolding collectionIn
   closed-length = states-length r closed
 
-  kernels-length : length (collectionIn g start r closed count .kernels) ≡ count
-  unfolding collectionIn kernelsIn
-  kernels-length = each-length (kernelIn g start r) 0 count
+  count-is : length (collectionIn g start r closed count .kernels) ≡ count
+  unfolding collectionIn
+  count-is = kernels-length g start r count
 
 -- ---- the states before s are expanded
 pub record CollectLeft (bytes : List ℕ) (canonical : Bool) (n : ℕ) (w₀ w : List ℕ) (count s : ℕ) : Type 0 where
@@ -99,7 +99,7 @@ module _ (bytes : List ℕ) (canonical : Bool) (n m : ℕ) (w₀ w : List ℕ) (
 
   over-is : count ≤ s → done (statesIn (view w) s) ≡ expandAll limits g follow (suc (129 - (s + 1))) here
   unfolding collectionIn
-  over-is h = sym (all-over limits g follow (129 - (s + 1)) here (omega (arith, closed-length g (startOf canonical n) (view w) s count, kernels-length g (startOf canonical n) (view w) s count)))
+  over-is h = sym (all-over limits g follow (129 - (s + 1)) here (omega (arith, closed-length g (startOf canonical n) (view w) s count, count-is g (startOf canonical n) (view w) s count)))
 
   pub collect-ends : count ≤ s → StatesBuilt bytes (allStates bytes canonical n (view w₀)) (view w₀) (view w) (States count)
   unfolding statesTo PlacedTo
@@ -113,7 +113,7 @@ module _ (bytes : List ℕ) (canonical : Bool) (n m : ℕ) (w₀ w : List ℕ) (
 
   module _ (after : List ℕ) (r : Built) (h : s < count) (call : ExpandsNext bytes canonical n s count w after r) where
     more : length (here .states) < length (here .kernels)
-    more = omega (arith, closed-length g (startOf canonical n) (view w) s count, kernels-length g (startOf canonical n) (view w) s count)
+    more = omega (arith, closed-length g (startOf canonical n) (view w) s count, count-is g (startOf canonical n) (view w) s count)
 
     turn-is : collectedTo g (startOf canonical n) (view after) (s + 1) r ≡ expandNext limits g follow here
     turn-is = call .outcome ∙ ap (λ (f : Follow). expandNext limits g f here) (follow-same g (view w₀) (view w) canonical n (asked .closable .clean) (walk .only .firsts))

@@ -12,6 +12,7 @@ use Rattle.room.specs.Areas.{Room, withEntries, withFirstEntries, withSets, put
 use Rattle.lookahead.specs.Sets.{loadSet, setAt}
 use Rattle.grammar.specs.Asked.{NoFault}
 use Rattle.grammar.proofs.Coded.{nonterminal-count-below}
+use Rattle.first.specs.Firsts.{firstsIn}
 use Rattle.states.specs.StatesIn.{entryIn, firstOf}
 use Rattle.closures.specs.Closures.{followOf, followIn}
 use Rattle.closures.specs.Runs.{OnlyBehind}
@@ -74,8 +75,11 @@ module _ (p q : Room) (s to : ℕ) (put : q ≡ putFirstEntry (s + 1) to p) wher
     cells = λ slot h ne. ap (λ (r : Room). setAt r slot) put ∙ only .cells slot h ne;
   }
 
--- ---- what closures hand on goes by FIRST alone
-pub follow-same : (g : Grammar) (v q : Room) (canonical : Bool) (n : ℕ) → NoFault g → ((slot : ℕ) → slot < 64 → setAt q slot ≡ setAt v slot) → followIn g canonical n q ≡ followIn g canonical n v
-follow-same g v q canonical n clean same =
+-- ---- FIRST, by which alone goes what closures hand on
+pub firsts-same : (g : Grammar) (v q : Room) → NoFault g → ((slot : ℕ) → slot < 64 → setAt q slot ≡ setAt v slot) → firstsIn g q ≡ firstsIn g v
+firsts-same g v q clean same =
     let few = nonterminal-count-below g clean in
-    ap (followOf canonical n) (each-same (loadSet (q .sets)) (loadSet (v .sets)) 0 (nonterminalCount g) (λ slot h l. same slot (omega arith)))
+    each-same (loadSet (q .sets)) (loadSet (v .sets)) 0 (nonterminalCount g) (λ slot h l. same slot (omega arith))
+
+pub follow-same : (g : Grammar) (v q : Room) (canonical : Bool) (n : ℕ) → NoFault g → ((slot : ℕ) → slot < 64 → setAt q slot ≡ setAt v slot) → followIn g canonical n q ≡ followIn g canonical n v
+follow-same g v q canonical n clean same = ap (followOf canonical n) (firsts-same g v q clean same)

@@ -1,3 +1,4 @@
+pub mod Asked
 pub mod Closing
 pub mod Collecting
 pub mod Expanding

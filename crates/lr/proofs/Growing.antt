@@ -126,7 +126,7 @@ place-within test (x ∷ xs) = go (test x) refl (place-within test xs)
     go true e h = rw e (omega arith)
     go false e h = rw e (omega arith)
 
-kernels-length : (g : Grammar) (start : TokenSet) (r : Room) (count : ℕ) → length (kernelsIn g start r count) ≡ count
+pub kernels-length : (g : Grammar) (start : TokenSet) (r : Room) (count : ℕ) → length (kernelsIn g start r count) ≡ count
 unfolding kernelsIn
 kernels-length g start r count = each-length (kernelIn g start r) 0 count
 

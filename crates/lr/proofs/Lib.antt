@@ -4,4 +4,5 @@ pub mod Leading
 pub mod Moves
 pub mod Parents
 pub mod Turning
+pub mod Unique
 pub mod Walks
