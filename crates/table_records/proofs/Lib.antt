@@ -1,7 +1,7 @@
 pub mod Entries
 pub mod Results
 pub mod Rooms
-pub mod Searches
 pub mod States
+pub mod Targets
 pub mod Turns
 pub mod Writes

@@ -1,4 +1,5 @@
 pub mod Asked
 pub mod Records
 pub mod Result
+pub mod Targets
 pub mod Written

@@ -13,7 +13,9 @@ ghost use Rattle.lookahead.specs.Sets.{IsToken};
 ghost use Rattle.states.specs.StatesIn.{statesIn, Placed};
 ghost use Rattle.table_records.specs.Asked.{Readable, ReadableEntry};
 ghost use Rattle.table_records.specs.Records.{overSymbol, onEntry, onToken, ofState, inTurn, maxOfState, maxRecords};
-use super::transitions::place_before;
+ghost use Rattle.table_records.specs.Targets.{IsSymbol, toTarget};
+use super::transitions::SYMBOLS;
+use super::transitions::gather;
 use grammar::items::at_end;
 use lookahead::contains;
 use room::slots::entry_slot;
@@ -22,15 +24,15 @@ use states::end_entry;
 use states::first_entry;
 use states::item;
 
-// 1 if the state has a record over the symbol, else 0.
-fn count_over(g: &[u8], kind: usize, x: usize, state: StateIndex, work: &[u64]) -> usize
-    requires { ⌜ Readable (now g) (now work) (state .0) ⌝ }
-    ensures { λ r. ⌜ (r ≡ length (overSymbol (now (g .entry)) (now (work .entry)) (state .0) kind x)) × (r ≤ 1) ⌝ }
+// 1 if the state has a record over symbol x, else 0.
+fn count_over(targets: &[u64; SYMBOLS], kind: usize, x: usize, state: StateIndex) -> usize
+    requires { ⌜ IsSymbol x ⌝ }
+    ensures { λ r. ⌜ (r ≡ length (toTarget (state .0) kind (now (targets .entry)) x)) × (r ≤ 1) ⌝ }
 {
-    if place_before(g, kind, x, state, work) < end_entry(work, state) {
-        return 1;
+    if targets[x] == 0 {
+        return 0;
     }
-    0
+    1
 }
 
 // The records of a state over the symbols of a kind, of which there are `symbols`.
@@ -41,12 +43,14 @@ fn count_transitions(
     state: StateIndex,
     work: &[u64],
 ) -> usize
-    requires { ⌜ Readable (now g) (now work) (state .0) ⌝ }
+    requires { ⌜ Readable (now g) (now work) (state .0) × Faultless (now g) × (symbols ≤ maxNonterminals) ⌝ }
     ensures { λ r. ⌜ (r ≡ length (inTurn (overSymbol (now (g .entry)) (now (work .entry)) (state .0) kind) 0 symbols)) × (r ≤ symbols) ⌝ }
 {
+    let mut targets: [u64; SYMBOLS] = [0; SYMBOLS];
+    gather(g, kind, state, work, &mut targets);
     let mut count: usize = 0;
     for x in 0..symbols {
-        count += count_over(g, kind, x, state, work);
+        count += count_over(&targets, kind, x, state);
     }
     count
 }
@@ -94,7 +98,7 @@ fn count_reductions(g: &[u8], n: usize, state: StateIndex, work: &[u64]) -> usiz
 
 // The records of a state. n and m are the grammar's numbers of terminals and nonterminals.
 fn count_state(g: &[u8], n: usize, m: usize, state: StateIndex, work: &[u64]) -> usize
-    requires { ⌜ Readable (now g) (now work) (state .0) × FewTerminals n × (m ≤ maxNonterminals) ⌝ }
+    requires { ⌜ Readable (now g) (now work) (state .0) × Faultless (now g) × FewTerminals n × (m ≤ maxNonterminals) ⌝ }
     requires { ⌜ (n ≡ terminalCount (records (now g))) × (m ≡ nonterminalCount (records (now g))) ⌝ }
     ensures { λ r. ⌜ (r ≡ length (ofState (now (g .entry)) (now (work .entry)) (state .0))) × (r ≤ maxOfState) ⌝ }
 {

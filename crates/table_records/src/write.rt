@@ -4,6 +4,7 @@ ghost use mathlib.Core.Path.{_≡_};
 ghost use Prim.Native.Nat.{_+_, _*_, _≤_};
 ghost use mathlib.Core.List.{[], _∷_};
 ghost use lib.ListN.{length};
+ghost use Rattle.rules.specs.Limits.{maxNonterminals};
 ghost use Rattle.rules.specs.Records.{records};
 ghost use Rattle.rules.specs.Grammar.{terminalCount, nonterminalCount};
 ghost use Rattle.rules.specs.Table.{tableRecord, recordBytes, tableBytes, tableOf};
@@ -15,9 +16,11 @@ ghost use Rattle.lookahead.specs.Sets.{IsToken};
 ghost use Rattle.states.specs.StatesIn.{statesIn, Placed};
 ghost use Rattle.table_records.specs.Asked.{Readable, ReadableEntry};
 ghost use Rattle.table_records.specs.Records.{IsKind, overSymbol, onEntry, onToken, ofState, inTurn};
+ghost use Rattle.table_records.specs.Targets.{IsSymbol, toTarget};
 ghost use Rattle.table_records.specs.Written.{Fits, Wrote};
+use super::transitions::SYMBOLS;
+use super::transitions::gather;
 use super::transitions::kind_over;
-use super::transitions::place_before;
 use grammar::items::at_end;
 use grammar::records::RECORD;
 use grammar::records::production;
@@ -28,7 +31,6 @@ use rules::StateIndex;
 use states::end_entry;
 use states::first_entry;
 use states::item;
-use states::next;
 
 // The eight bytes of a record, at the front of what is lent: bytes 0-1 state, 2 kind, 3 zero, 4-5 symbol, 6-7 target.
 fn write_record(table: &mut [u8], state: StateIndex, kind: usize, symbol: usize, target: usize)
@@ -61,25 +63,23 @@ fn put_record(
     at + RECORD
 }
 
-// The record of a state over a symbol, if it has one: the first of the entries before the symbol tells where that leads.
+// The record of a state over symbol x, if the symbol leads somewhere.
 fn write_over(
-    g: &[u8],
+    targets: &[u64; SYMBOLS],
     kind: usize,
     x: usize,
     state: StateIndex,
-    work: &[u64],
     table: &mut [u8],
     at: usize,
 ) -> usize
-    requires { ⌜ Readable (now g) (now work) (state .0) × Fits (overSymbol (now g) (now work) (state .0) kind x) at (now table) ⌝ }
-    ensures { λ r. ⌜ Wrote (overSymbol (now (g .entry)) (now (work .entry)) (state .0) kind x) at (now (table .entry)) (now (table .exit)) r ⌝ }
+    requires { ⌜ IsSymbol x × Fits (toTarget (state .0) kind (now targets) x) at (now table) ⌝ }
+    ensures { λ r. ⌜ Wrote (toTarget (state .0) kind (now (targets .entry)) x) at (now (table .entry)) (now (table .exit)) r ⌝ }
 {
-    let k = place_before(g, kind, x, state, work);
-    if end_entry(work, state) <= k {
+    let target = targets[x];
+    if target == 0 {
         return at;
     }
-    let to = next(work, k);
-    put_record(table, at, state, kind_over(kind), x, to.0)
+    put_record(table, at, state, kind_over(kind), x, (target - 1) as usize)
 }
 
 // The records of a state over the symbols of a kind, ascending. There are `symbols` of them.
@@ -92,13 +92,15 @@ fn write_transitions(
     table: &mut [u8],
     at: usize,
 ) -> usize
-    requires { ⌜ Readable (now g) (now work) (state .0) ⌝ }
+    requires { ⌜ Readable (now g) (now work) (state .0) × Faultless (now g) × (symbols ≤ maxNonterminals) ⌝ }
     requires { ⌜ Fits (inTurn (overSymbol (now g) (now work) (state .0) kind) 0 symbols) at (now table) ⌝ }
     ensures { λ r. ⌜ Wrote (inTurn (overSymbol (now (g .entry)) (now (work .entry)) (state .0) kind) 0 symbols) at (now (table .entry)) (now (table .exit)) r ⌝ }
 {
+    let mut targets: [u64; SYMBOLS] = [0; SYMBOLS];
+    gather(g, kind, state, work, &mut targets);
     let mut to = at;
     for x in 0..symbols {
-        to = write_over(g, kind, x, state, work, table, to);
+        to = write_over(&targets, kind, x, state, table, to);
     }
     to
 }
@@ -178,8 +180,8 @@ fn write_state(
     table: &mut [u8],
     at: usize,
 ) -> usize
-    requires { ⌜ Readable (now g) (now work) (state .0) × FewTerminals n × Fits (ofState (now g) (now work) (state .0)) at (now table) ⌝ }
-    requires { ⌜ (n ≡ terminalCount (records (now g))) × (m ≡ nonterminalCount (records (now g))) ⌝ }
+    requires { ⌜ Readable (now g) (now work) (state .0) × Faultless (now g) × FewTerminals n × (m ≤ maxNonterminals) ⌝ }
+    requires { ⌜ Fits (ofState (now g) (now work) (state .0)) at (now table) × (n ≡ terminalCount (records (now g))) × (m ≡ nonterminalCount (records (now g))) ⌝ }
     ensures { λ r. ⌜ Wrote (ofState (now (g .entry)) (now (work .entry)) (state .0)) at (now (table .entry)) (now (table .exit)) r ⌝ }
 {
     let shifted = write_transitions(g, 1, n, state, work, table, at);

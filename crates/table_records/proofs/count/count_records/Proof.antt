@@ -3,11 +3,11 @@ use Prim.Native.Nat.{_≤_, _-_, _+_, _*_}
 use mathlib.Core.Path.{_≡_}
 use borrow.Author.Needs.{needs}
 use lib.ListN.{length}
-use Rattle.rules.specs.Table.{tableOf}
-use Rattle.rules.specs.Records.{records}
 use Rattle.rules.specs.Limits.{maxNonterminals}
-use Rattle.room.specs.Bounds.{FewTerminals}
+use Rattle.rules.specs.Records.{records}
+use Rattle.rules.specs.Table.{tableOf}
 use Rattle.room.specs.Areas.{view}
+use Rattle.room.specs.Bounds.{FewTerminals}
 use Rattle.states.specs.StatesIn.{statesIn}
 use Rattle.table_records.specs.Records.{inTurn, ofState, maxOfState}
 use Rattle.table_records.proofs.Turns.{count-turn, count-end}

@@ -4,15 +4,17 @@ use mathlib.Core.Path.{_≡_}
 use borrow.Author.Needs.{needs}
 use lib.ListN.{length}
 use Rattle.table_records.specs.Records.{inTurn, overSymbol}
+use Rattle.table_records.specs.Targets.{toTarget}
 use Rattle.table_records.proofs.Turns.{count-turn, count-end}
+use Rattle.table_records.proofs.Targets.{no-targets, targets-counted}
 use Rattle.table_records.proofs.count.count_transitions.Statement.{statement}
 use Rattle.table_records.proofs.count.count_transitions.Tie as tie
 
 abbrev Inv-loop : tie.InvT-loop
-Inv-loop g kind symbols state work count₀ x₀ count x = (x ≤ symbols) × (count ≤ x) × (count + length (inTurn (overSymbol g work (state .0) kind) x symbols) ≡ length (inTurn (overSymbol g work (state .0) kind) 0 symbols))
+Inv-loop g kind symbols state work targets count₀ x₀ count x = (x ≤ symbols) × (count ≤ x) × (count + length (inTurn (toTarget (state .0) kind targets) x symbols) ≡ length (inTurn (overSymbol g work (state .0) kind) 0 symbols))
 
 abbrev μ-loop : tie.MeasureT-loop
-μ-loop g kind symbols state work count₀ x₀ count x = symbols - x
+μ-loop g kind symbols state work targets count₀ x₀ count x = symbols - x
 
 pub count-transitions-spec : {M : Type 1} → statement M
 count-transitions-spec =
@@ -20,7 +22,8 @@ count-transitions-spec =
     (tie.spec
     Inv-loop
     μ-loop
-    (λ c. search needs)
+    (λ c κs. search (needs, no-targets))
+    (λ c. search (needs, targets-counted))
     (λ c κs. search needs)
     (λ c. search needs)
     (λ c. search needs)

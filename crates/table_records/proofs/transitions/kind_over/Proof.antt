@@ -1,6 +1,6 @@
 -- `table_records::transitions::kind_over` meets its contract.
 use borrow.Author.Needs.{needs}
-use Rattle.table_records.proofs.Searches.{kind-shift, kind-goto}
+use Rattle.table_records.proofs.Targets.{kind-shift, kind-goto}
 use Rattle.table_records.proofs.transitions.kind_over.Statement.{statement}
 use Rattle.table_records.proofs.transitions.kind_over.Tie as tie
 

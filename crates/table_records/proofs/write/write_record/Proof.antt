@@ -3,8 +3,8 @@ use native.Mathlib.Omega.{arith}
 use borrow.Author.Needs.{needs}
 use lib.Seq.{sets-eq}
 use lib.ListN.{length-set}
-use Rattle.rules.specs.Rooms.{overwritten}
 use Rattle.rules.specs.Table.{tableRecord, recordBytes, twoBytes}
+use Rattle.rules.specs.Rooms.{overwritten}
 use Rattle.table_records.proofs.write.write_record.Statement.{statement}
 use Rattle.table_records.proofs.write.write_record.Tie as tie
 

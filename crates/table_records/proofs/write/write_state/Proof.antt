@@ -11,7 +11,7 @@ reductions-requires c κs =
     let asked = shifted .before .before .before .before .before .pre in
     let shifts-written = shifted .write-transitions .ensures in
     let gotos-written = gone .write-transitions2 .ensures in
-    (search needs, reductions-fit _ _ _ _ _ (asked .1 .0) (asked .1 .1) _ _ (asked .0 .2) _ _ shifts-written _ _ gotos-written)
+    (search needs, reductions-fit _ _ _ _ _ (asked .1 .1) (asked .1 .2) _ _ (asked .1 .0) _ _ shifts-written _ _ gotos-written)
 
 pub write-state-spec : {M : Type 1} → statement M
 write-state-spec =
