@@ -1,0 +1,188 @@
+// Runs examples 2 to 6 of document 01 and writes a line for each: its number, `accepted` or `refused` with document 01's numbers, then the
+// cells of the stack and those of the list. Each cell is 9 before the call.
+use drive_answers::Said;
+use libc::STDOUT_FILENO;
+
+// Example 1, S→A and A→a: its grammar and its table, eight bytes a record.
+const GRAMMAR: [u8; 32] = [
+    0,
+    0,
+    0,
+    0,
+    0,
+    0,
+    0,
+    0,
+    0,
+    0,
+    1,
+    0,
+    0,
+    0,
+    1,
+    0,
+    1,
+    0,
+    0,
+    0,
+    0,
+    0,
+    1,
+    0,
+    1,
+    0,
+    1,
+    0,
+    1,
+    0,
+    0,
+    0,
+];
+
+const TABLE: [u8; 32] = [
+    0,
+    0,
+    0,
+    0,
+    0,
+    0,
+    2,
+    0,
+    0,
+    0,
+    1,
+    0,
+    1,
+    0,
+    1,
+    0,
+    1,
+    0,
+    2,
+    0,
+    1,
+    0,
+    0,
+    0,
+    2,
+    0,
+    2,
+    0,
+    1,
+    0,
+    1,
+    0,
+];
+
+// Writes a blank and a number.
+fn write_number(number: u64) {
+    io::write_all(STDOUT_FILENO, b" ");
+    io::print_decimal(STDOUT_FILENO, number);
+}
+
+// Writes the answer of a call.
+fn write_said(said: Said) {
+    match said {
+        Said::Refused(number, place) => {
+            io::write_all(STDOUT_FILENO, b": refused");
+            write_number(number);
+            write_number(place as u64);
+        }
+        Said::Accepted(steps, listed) => {
+            io::write_all(STDOUT_FILENO, b": accepted");
+            write_number(steps as u64);
+            write_number(listed as u64);
+        }
+        Said::Stopped(number, place, steps, listed) => {
+            io::write_all(STDOUT_FILENO, b": refused");
+            write_number(number);
+            write_number(place as u64);
+            write_number(steps as u64);
+            write_number(listed as u64);
+        }
+    }
+}
+
+// Writes a blank and the number of a cell.
+fn write_cell(cell: u16) {
+    write_number(cell as u64);
+}
+
+// Writes a word and the cells of a room.
+fn write_cells(word: &[u8], cells: &[u16]) {
+    io::write_all(STDOUT_FILENO, word);
+    let count = cells.len();
+    for i in 0..count {
+        write_cell(cells[i]);
+    }
+}
+
+// Runs an example in the rooms that are lent.
+fn run_example(
+    name: &[u8],
+    grammar: &[u8],
+    table: &[u8],
+    tokens: &[u8],
+    limit: u64,
+    stack: &mut [u16],
+    list: &mut [u16],
+) {
+    io::write_all(STDOUT_FILENO, name);
+    let answer = driver::drive(grammar, table, tokens, limit, stack, list);
+    write_said(drive_answers::drive_said(answer));
+    write_cells(b", stack", stack);
+    write_cells(b", list", list);
+    io::write_all(STDOUT_FILENO, b"\n");
+}
+
+// The driver of example 1, S→A and A→a, in rooms for four numbers each.
+fn run_in_four(name: &[u8], tokens: &[u8], limit: u64) {
+    let mut stack = [9u16; 4];
+    let mut list = [9u16; 4];
+    run_example(name, &GRAMMAR, &TABLE, tokens, limit, &mut stack, &mut list);
+}
+
+fn run_in_less() {
+    let mut one = [9u16; 1];
+    let mut four = [9u16; 4];
+    run_example(
+        b"5, stack room 1",
+        &GRAMMAR,
+        &TABLE,
+        b"\x00",
+        9,
+        &mut one,
+        &mut four,
+    );
+    let mut stack = [9u16; 4];
+    let mut list = [9u16; 1];
+    run_example(
+        b"5, list room 1",
+        &GRAMMAR,
+        &TABLE,
+        b"\x00",
+        9,
+        &mut stack,
+        &mut list,
+    );
+}
+
+fn main() {
+    run_in_four(b"2", b"\x00", 9);
+    run_in_four(b"3", b"", 9);
+    run_in_four(b"4", b"\x00\x00", 9);
+    run_in_four(b"5, limit 2", b"\x00", 2);
+    run_in_less();
+    let mut stack = [9u16; 4];
+    let mut list = [9u16; 4];
+    let eight = [0u8; 8];
+    run_example(
+        b"6",
+        &eight,
+        b"\x00\x00\x02\x00\x00\x00\x00\x00",
+        b"",
+        9,
+        &mut stack,
+        &mut list,
+    );
+}
