@@ -1,9 +1,9 @@
-// What document 01 says of the driver's answers: a refusal's number and place, and the steps and the list length of a run.
+// What document 01 says of the driver's answers: the number and the place of a refusal, the steps and the list length of a run.
 use rules::DriveAnswer;
 use rules::GrammarRefusal;
 use rules::RunEnd;
 ghost use mathlib.Core.Path.{_≡_};
-ghost use Rattle.rules.specs.Answers.{grammarRefusalSaid, runEndSaid, driveSaid};
+ghost use Rattle.rules.specs.Answers.{refused, grammarRefusalSaid, runEndSaid, driveSaid};
 ghost use Rattle.drive_answers.specs.Meant.{meant};
 
 // An answer of the driver in document 01's numbers.
@@ -16,21 +16,45 @@ pub enum Said {
     Stopped(u64, usize, usize, usize),
 }
 
-// Of a grammar that is refused.
-pub fn grammar_refusal_said(why: GrammarRefusal) -> Said
-    ensures { λ r. ⌜ grammarRefusalSaid why ≡ meant r ⌝ }
+// Document 01's number and place of a refusal.
+pub struct Numbered {
+    pub number: u64,
+    pub place: usize,
+}
+
+// Those of a grammar that is refused.
+pub fn numbered_as(why: GrammarRefusal) -> Numbered
+    ensures { λ r. ⌜ grammarRefusalSaid why ≡ refused (r .number) (r .place) ⌝ }
 {
     match why {
-        GrammarRefusal::Length => Said::Refused(3, 0),
-        GrammarRefusal::BadRecord(record) => Said::Refused(4, record),
-        GrammarRefusal::OutOfSequence(record) => Said::Refused(5, record),
-        GrammarRefusal::StartAgain(production) => Said::Refused(6, production),
-        GrammarRefusal::NoProduction(nonterminal) => Said::Refused(7, nonterminal),
-        GrammarRefusal::NoString(nonterminal) => Said::Refused(8, nonterminal),
+        GrammarRefusal::Length => Numbered {
+            number: 3,
+            place: 0,
+        },
+        GrammarRefusal::BadRecord(record) => Numbered {
+            number: 4,
+            place: record,
+        },
+        GrammarRefusal::OutOfSequence(record) => Numbered {
+            number: 5,
+            place: record,
+        },
+        GrammarRefusal::StartAgain(production) => Numbered {
+            number: 6,
+            place: production,
+        },
+        GrammarRefusal::NoProduction(nonterminal) => Numbered {
+            number: 7,
+            place: nonterminal,
+        },
+        GrammarRefusal::NoString(nonterminal) => Numbered {
+            number: 8,
+            place: nonterminal,
+        },
     }
 }
 
-// Of a run that ended so.
+// What is said of a run that ended so.
 pub fn run_end_said(end: RunEnd, place: usize, steps: usize, listed: usize) -> Said
     ensures { λ r. ⌜ runEndSaid end place steps listed ≡ meant r ⌝ }
 {
@@ -44,12 +68,15 @@ pub fn run_end_said(end: RunEnd, place: usize, steps: usize, listed: usize) -> S
     }
 }
 
-// Of every answer of the driver.
+// What is said of every answer of the driver.
 pub fn drive_said(answer: DriveAnswer) -> Said
     ensures { λ r. ⌜ driveSaid answer ≡ meant r ⌝ }
 {
     match answer {
-        DriveAnswer::NoGrammar(why) => grammar_refusal_said(why),
+        DriveAnswer::NoGrammar(why) => {
+            let numbered = numbered_as(why);
+            Said::Refused(numbered.number, numbered.place)
+        }
         DriveAnswer::NoTable(record) => Said::Refused(15, record),
         DriveAnswer::NoToken(token) => Said::Refused(16, token),
         DriveAnswer::Ran(run) => {

@@ -6,48 +6,8 @@
 use libc::STDIN_FILENO;
 use libc::STDOUT_FILENO;
 use rules::GrammarAnswer;
-use rules::GrammarRefusal;
-ghost use mathlib.Core.Path.{_≡_};
 ghost use Prim.Native.Nat.{_<_, _≤_};
 ghost use lib.ListN.{length};
-ghost use Rattle.rules.specs.Answers.{Said, grammarRefusalSaid};
-
-// Document 01's number and place of a refusal.
-struct Numbered {
-    number: u64,
-    place: usize,
-}
-
-fn numbered_as(why: GrammarRefusal) -> Numbered
-    ensures { λ r. ⌜ grammarRefusalSaid why ≡ Said.refused (r .number) (r .place) ⌝ }
-{
-    match why {
-        GrammarRefusal::Length => Numbered {
-            number: 3,
-            place: 0,
-        },
-        GrammarRefusal::BadRecord(record) => Numbered {
-            number: 4,
-            place: record,
-        },
-        GrammarRefusal::OutOfSequence(record) => Numbered {
-            number: 5,
-            place: record,
-        },
-        GrammarRefusal::StartAgain(production) => Numbered {
-            number: 6,
-            place: production,
-        },
-        GrammarRefusal::NoProduction(nonterminal) => Numbered {
-            number: 7,
-            place: nonterminal,
-        },
-        GrammarRefusal::NoString(nonterminal) => Numbered {
-            number: 8,
-            place: nonterminal,
-        },
-    }
-}
 
 // Writes an answer, with what stands before it on its line.
 fn write_answer(answer: GrammarAnswer) {
@@ -56,7 +16,7 @@ fn write_answer(answer: GrammarAnswer) {
             io::write_all(STDOUT_FILENO, b": coded\n");
         }
         GrammarAnswer::Refused(why) => {
-            let s = numbered_as(why);
+            let s = drive_answers::numbered_as(why);
             io::write_all(STDOUT_FILENO, b": refused ");
             io::print_decimal(STDOUT_FILENO, s.number);
             io::write_all(STDOUT_FILENO, b" ");

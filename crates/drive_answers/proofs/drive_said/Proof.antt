@@ -7,7 +7,7 @@ use Rattle.drive_answers.proofs.drive_said.Tie as tie
 
 returns : tie.Need-returns
 unfolding driveSaid
-returns c = ap driveSaid (c .before .before .answer .given .1) ∙ c .grammar-refusal-said .ensures
+returns c = ap driveSaid (c .before .before .answer .given .1) ∙ c .numbered-as .ensures
 
 returns-2 : tie.Need-returns-2
 unfolding driveSaid

@@ -1,9 +1,9 @@
--- `grammar_limits::numbered_as` meets its contract: each variant has the number that document 01 gives it.
+-- `drive_answers::numbered_as` meets its contract: each variant has the number that document 01 gives it.
 use mathlib.Core.Path.{ap}
 use borrow.Author.Needs.{needs}
 use Rattle.rules.specs.Answers.{grammarRefusalSaid}
-use Rattle.grammar_limits.proofs.numbered_as.Statement.{statement}
-use Rattle.grammar_limits.proofs.numbered_as.Tie as tie
+use Rattle.drive_answers.proofs.numbered_as.Statement.{statement}
+use Rattle.drive_answers.proofs.numbered_as.Tie as tie
 
 returns : tie.Need-returns
 unfolding grammarRefusalSaid
