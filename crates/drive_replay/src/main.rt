@@ -5,8 +5,9 @@ use drive_answers::Said;
 use libc::STDIN_FILENO;
 use libc::STDOUT_FILENO;
 ghost use mathlib.Core.Path.{_≡_};
-ghost use Prim.Native.Nat.{_+_, _<_, _≤_};
+ghost use Prim.Native.Nat.{_<_, _≤_};
 ghost use lib.ListN.{length};
+ghost use Rattle.drive_replay.specs.Cases.{fourBytes, maxRoom, Within, IsCase};
 
 // The most cells that a case lends for its stack or list.
 const ROOM: usize = 1024;
@@ -31,8 +32,8 @@ struct Part {
 
 // The number of four bytes, the first of which is byte i.
 fn number(cases: &[u8], i: usize) -> u64
-    requires { ⌜ i + 4 ≤ length (now cases) ⌝ }
-    ensures { λ r. ⌜ r < 4294967296 ⌝ }
+    requires { ⌜ Within i 4 (now cases) ⌝ }
+    ensures { λ r. ⌜ r < fourBytes ⌝ }
 {
     let low = base::wide(cases[i]) + 256 * base::wide(cases[i + 1]);
     let high = base::wide(cases[i + 2]) + 256 * base::wide(cases[i + 3]);
@@ -41,7 +42,7 @@ fn number(cases: &[u8], i: usize) -> u64
 
 // The shared bytes that two numbers from byte i on name; none where there are not as many.
 fn shared_part(cases: &[u8], i: usize) -> Part
-    requires { ⌜ i + 8 ≤ length (now cases) ⌝ }
+    requires { ⌜ Within i 8 (now cases) ⌝ }
     ensures { λ r. ⌜ (r .from ≤ r .to) × (r .to ≤ length (now (cases .entry))) ⌝ }
 {
     let from = 4 + number(cases, i) as usize;
@@ -54,8 +55,8 @@ fn shared_part(cases: &[u8], i: usize) -> Part
 
 // How many cells a room has by the number from byte i on.
 fn room(cases: &[u8], i: usize) -> usize
-    requires { ⌜ i + 4 ≤ length (now cases) ⌝ }
-    ensures { λ r. ⌜ r ≤ 1024 ⌝ }
+    requires { ⌜ Within i 4 (now cases) ⌝ }
+    ensures { λ r. ⌜ r ≤ maxRoom ⌝ }
 {
     let cells = number(cases, i) as usize;
     if ROOM < cells {
@@ -101,7 +102,7 @@ fn cells_agree(cells: &[u16], put: &[u8]) -> bool {
 
 // The four numbers from byte i on are these.
 fn are(cases: &[u8], i: usize, first: u64, second: u64, third: u64, fourth: u64) -> bool
-    requires { ⌜ i + 16 ≤ length (now cases) ⌝ }
+    requires { ⌜ Within i 16 (now cases) ⌝ }
 {
     if number(cases, i) != first {
         return false;
@@ -117,7 +118,7 @@ fn are(cases: &[u8], i: usize, first: u64, second: u64, third: u64, fourth: u64)
 
 // The answer is the one that stands from byte i on: number, place, steps, list length.
 fn answer_agrees(cases: &[u8], i: usize, said: Said) -> bool
-    requires { ⌜ i + 16 ≤ length (now cases) ⌝ }
+    requires { ⌜ Within i 16 (now cases) ⌝ }
 {
     match said {
         Said::Refused(number, place) => are(cases, i, number, place as u64, 0, 0),
@@ -130,7 +131,7 @@ fn answer_agrees(cases: &[u8], i: usize, said: Said) -> bool
 
 // Drives the case that begins at a byte in the rooms that are lent, and tells whether the answer is the expected one.
 fn drive_case(cases: &[u8], at: usize, stack: &mut [u16], list: &mut [u16]) -> bool
-    requires { ⌜ at + 60 ≤ length (now cases) ⌝ }
+    requires { ⌜ IsCase at (now cases) ⌝ }
 {
     let grammar = shared_part(cases, at);
     let table = shared_part(cases, at + 8);
@@ -163,7 +164,7 @@ fn replay(
     stack: &mut [u16],
     list: &mut [u16],
 ) -> bool
-    requires { ⌜ at + 60 ≤ length (now cases) ⌝ }
+    requires { ⌜ IsCase at (now cases) ⌝ }
 {
     lay(stack);
     lay(list);
@@ -177,15 +178,15 @@ fn replay(
 }
 
 // The cells of a room.
-fn cells() -> [u16; 1024]
-    ensures { λ r. ⌜ 1024 ≡ length r ⌝ }
+fn cells() -> [u16; ROOM]
+    ensures { λ r. ⌜ maxRoom ≡ length r ⌝ }
 {
-    [0; 1024]
+    [0; ROOM]
 }
 
 // The same in rooms of the size that the case says.
 fn replay_in_rooms(cases: &[u8], at: usize, states: &[u8], productions: &[u8]) -> bool
-    requires { ⌜ at + 60 ≤ length (now cases) ⌝ }
+    requires { ⌜ IsCase at (now cases) ⌝ }
 {
     let stack_room = room(cases, at + 32);
     let list_room = room(cases, at + 36);
