@@ -3,77 +3,6 @@
 use drive_answers::Said;
 use libc::STDOUT_FILENO;
 
-// Example 1, S→A and A→a: its grammar and its table, eight bytes a record.
-const GRAMMAR: [u8; 32] = [
-    0,
-    0,
-    0,
-    0,
-    0,
-    0,
-    0,
-    0,
-    0,
-    0,
-    1,
-    0,
-    0,
-    0,
-    1,
-    0,
-    1,
-    0,
-    0,
-    0,
-    0,
-    0,
-    1,
-    0,
-    1,
-    0,
-    1,
-    0,
-    1,
-    0,
-    0,
-    0,
-];
-
-const TABLE: [u8; 32] = [
-    0,
-    0,
-    0,
-    0,
-    0,
-    0,
-    2,
-    0,
-    0,
-    0,
-    1,
-    0,
-    1,
-    0,
-    1,
-    0,
-    1,
-    0,
-    2,
-    0,
-    1,
-    0,
-    0,
-    0,
-    2,
-    0,
-    2,
-    0,
-    1,
-    0,
-    1,
-    0,
-];
-
 // Writes a blank and a number.
 fn write_number(number: u64) {
     io::write_all(STDOUT_FILENO, b" ");
@@ -135,20 +64,25 @@ fn run_example(
     io::write_all(STDOUT_FILENO, b"\n");
 }
 
-// The driver of example 1, S→A and A→a, in rooms for four numbers each.
-fn run_in_four(name: &[u8], tokens: &[u8], limit: u64) {
+// Runs an example in rooms for four numbers each.
+fn run_in_four(name: &[u8], grammar: &[u8], table: &[u8], tokens: &[u8], limit: u64) {
     let mut stack = [9u16; 4];
     let mut list = [9u16; 4];
-    run_example(name, &GRAMMAR, &TABLE, tokens, limit, &mut stack, &mut list);
+    run_example(name, grammar, table, tokens, limit, &mut stack, &mut list);
 }
 
-fn run_in_less() {
+// Examples 2 to 5, with the grammar and the table of example 1.
+fn run_first(grammar: &[u8], table: &[u8]) {
+    run_in_four(b"2", grammar, table, b"\x00", 9);
+    run_in_four(b"3", grammar, table, b"", 9);
+    run_in_four(b"4", grammar, table, b"\x00\x00", 9);
+    run_in_four(b"5, limit 2", grammar, table, b"\x00", 2);
     let mut one = [9u16; 1];
     let mut four = [9u16; 4];
     run_example(
         b"5, stack room 1",
-        &GRAMMAR,
-        &TABLE,
+        grammar,
+        table,
         b"\x00",
         9,
         &mut one,
@@ -158,8 +92,8 @@ fn run_in_less() {
     let mut list = [9u16; 1];
     run_example(
         b"5, list room 1",
-        &GRAMMAR,
-        &TABLE,
+        grammar,
+        table,
         b"\x00",
         9,
         &mut stack,
@@ -167,22 +101,17 @@ fn run_in_less() {
     );
 }
 
+// The grammar of example 1 is S→A, A→a, that of example 6 eight zero bytes; each stands with its table.
 fn main() {
-    run_in_four(b"2", b"\x00", 9);
-    run_in_four(b"3", b"", 9);
-    run_in_four(b"4", b"\x00\x00", 9);
-    run_in_four(b"5, limit 2", b"\x00", 2);
-    run_in_less();
-    let mut stack = [9u16; 4];
-    let mut list = [9u16; 4];
-    let eight = [0u8; 8];
-    run_example(
+    run_first(
+        b"\x00\x00\x00\x00\x00\x00\x00\x00\x00\x00\x01\x00\x00\x00\x01\x00\x01\x00\x00\x00\x00\x00\x01\x00\x01\x00\x01\x00\x01\x00\x00\x00",
+        b"\x00\x00\x00\x00\x00\x00\x02\x00\x00\x00\x01\x00\x01\x00\x01\x00\x01\x00\x02\x00\x01\x00\x00\x00\x02\x00\x02\x00\x01\x00\x01\x00",
+    );
+    run_in_four(
         b"6",
-        &eight,
+        b"\x00\x00\x00\x00\x00\x00\x00\x00",
         b"\x00\x00\x02\x00\x00\x00\x00\x00",
         b"",
         9,
-        &mut stack,
-        &mut list,
     );
 }

@@ -20,12 +20,14 @@ const TABLE_ROOM: usize = 131072;
 // No run shifts more than the stack holds and 16 more for each production on the list.
 const TOKENS_ROOM: usize = 1114112;
 
+// The room for a table.
 fn table_room() -> [u8; TABLE_ROOM]
     ensures { λ r. ⌜ 131072 ≡ length r ⌝ }
 {
     [0; TABLE_ROOM]
 }
 
+// The room for tokens.
 fn tokens_room() -> [u8; TOKENS_ROOM]
     ensures { λ r. ⌜ 1114112 ≡ length r ⌝ }
 {
