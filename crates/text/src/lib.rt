@@ -15,8 +15,8 @@ fn write_numbers(to: i32, word: &[u8], a: u64, b: u64) {
     io::print_decimal(to, b);
 }
 
-// Writes the line of an answer.
-pub fn write_said(to: i32, said: Said) {
+// Writes the words of an answer.
+pub fn write_words(to: i32, said: Said) {
     match said {
         Said::Coded => {
             io::write_all(to, b"coded");
@@ -39,6 +39,11 @@ pub fn write_said(to: i32, said: Said) {
             write_numbers(to, b"", steps as u64, listed as u64);
         }
     }
+}
+
+// Writes the line of an answer.
+pub fn write_said(to: i32, said: Said) {
+    write_words(to, said);
     io::write_all(to, b"\n");
 }
 
