@@ -1,7 +1,7 @@
 -- The whole call: refusals 1 to 8, and what is left in the work room.
 use Prim.Native.Nat.{ℕ, _*_, _<_, _≤_}
-use mathlib.Core.Path.{_≡_, refl, sym, ap, _∙_}
-use mathlib.Core.Bool.{Bool, true, false}
+use mathlib.Core.Path.{_≡_, sym, ap, _∙_}
+use mathlib.Core.Bool.{Bool}
 use mathlib.Core.List.{List, _++_}
 use native.Mathlib.Omega.{arith}
 use lib.ListN.{length, drop, replicate}
@@ -14,7 +14,6 @@ use Rattle.base.proofs.Fills.{length-zeros}
 use Rattle.rules.specs.Limits.{limits, workSize}
 use Rattle.rules.specs.Records.{records}
 use Rattle.rules.specs.Grammar.{grammarAnswer, terminalCount, nonterminalCount}
-use Rattle.rules.specs.First.{firstSets}
 use Rattle.rules.specs.Rooms.{cleared}
 use Rattle.rules.specs.Build.{BuildResult, constructed, notBuilt, resultOf, buildCoded, build}
 use Rattle.rules.specs.declared.GrammarRefusal.{GrammarRefusal}
@@ -26,10 +25,9 @@ use Rattle.rules.specs.declared.BuildAnswer.the-variants.{Built, NotBuilt}
 use Rattle.rules.proofs.Rooms.{built-keeps-rest}
 use Rattle.grammar.proofs.Coded.{coded-some, coded-short, coded-whole, coded-faultless, terminal-count-below, nonterminal-count-below}
 use Rattle.room.specs.Areas.{view}
-use Rattle.room.specs.Bounds.{LongEnough}
 use Rattle.room.proofs.Clearing.{view-cleared, cleared-same}
 use Rattle.first.specs.Asked.{Counted}
-use Rattle.first.specs.Firsts.{firstsIn, FirstsFound}
+use Rattle.first.specs.Firsts.{firstsIn}
 use Rattle.first.proofs.Loads.{blank-firsts}
 use Rattle.collection.specs.Collections.{Collectable}
 use Rattle.table_records.specs.Result.{gaveIn}

@@ -1,7 +1,7 @@
 -- The states that a mode gives: those of lane mode are checked, those of canonical mode are taken as they are.
-use Prim.Native.Nat.{ℕ, zero, suc, _<_, _≤_}
-use mathlib.Core.Path.{_≡_, refl, sym, ap, subst, _∙_}
-use mathlib.Core.List.{List, []}
+use Prim.Native.Nat.{ℕ, _<_, _≤_}
+use mathlib.Core.Path.{_≡_, sym, ap, subst, _∙_}
+use mathlib.Core.List.{List}
 use native.Mathlib.Omega.{arith}
 use lib.ListN.{length}
 use lib.Dec.{ltb}
@@ -16,7 +16,6 @@ use Rattle.rules.specs.FinalCheck.{firstFailing, checked}
 use Rattle.rules.specs.Build.{constructed}
 use Rattle.rules.specs.declared.BuildRefusal.{BuildRefusal}
 use Rattle.rules.specs.declared.BuildRefusal.the-variants.{FinalCheck}
-use Rattle.rules.specs.declared.StateIndex.{StateIndex}
 use Rattle.room.specs.Areas.{Room, view}
 use Rattle.room.specs.Slots.{entrySlot}
 use Rattle.first.specs.Firsts.{firstsIn}

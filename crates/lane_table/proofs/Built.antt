@@ -1,17 +1,14 @@
--- What a lane table that was built leaves: the states, FIRST, the actions and what is not used.
+-- What a lane table that was built leaves: the states, the actions and what is not used.
 use Prim.Native.Nat.{ℕ}
 use mathlib.Core.Path.{_≡_, refl, ap, _∙_}
 use mathlib.Core.List.{List}
-use Rattle.rules.specs.Records.{Grammar}
-use Rattle.grammar.specs.Asked.{NoFault}
 use Rattle.room.specs.Areas.{Room}
-use Rattle.first.specs.Firsts.{firstsIn}
 use Rattle.states.specs.StatesIn.{statesIn, Placed}
 use Rattle.state_graph.specs.Links.{withLinksOf, OnlyLinks}
 use Rattle.state_graph.proofs.Linking.{still-placed, same-states}
 use Rattle.lane_table.specs.Actions.{LaneTableBuilt}
 use Rattle.lane_table.specs.declared.Lanes.{Lanes}
-use Rattle.lane_table.proofs.Frames.{placed-kept, states-kept, firsts-kept}
+use Rattle.lane_table.proofs.Frames.{placed-kept, states-kept}
 
 module _ (bytes : List ℕ) (lanes : Lanes) (s : ℕ) (v q : Room) (built : LaneTableBuilt bytes lanes s v q) where
   relinked : OnlyLinks v (withLinksOf q v)
@@ -26,9 +23,6 @@ module _ (bytes : List ℕ) (lanes : Lanes) (s : ℕ) (v q : Room) (built : Lane
 
     pub built-states : statesIn q count ≡ statesIn v count
     built-states = states-kept (withLinksOf q v) q (built .only) recordCount count between ∙ same-states v (withLinksOf q v) relinked recordCount count placed
-
-  pub built-firsts : (g : Grammar) → NoFault g → firstsIn g q ≡ firstsIn g v
-  built-firsts g clean = firsts-kept (withLinksOf q v) q (built .only) g clean
 
   pub built-actions : q .actions ≡ v .actions
   built-actions = ap (λ (r : Room). r .actions) (built .only .others)

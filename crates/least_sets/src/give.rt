@@ -1,9 +1,8 @@
 // Tokens are handed on to entries of a state: the set at hand is joined into their least sets.
 ghost use mathlib.Core.Path.{_≡_};
-ghost use mathlib.Core.Bool.{true, not};
+ghost use mathlib.Core.Bool.{not};
 ghost use Prim.Native.Nat.{_≤_, _<_};
 ghost use lib.ListN.{length};
-ghost use Rattle.base.specs.Pick.{pick};
 ghost use Rattle.rules.specs.Records.{records};
 ghost use Rattle.grammar.specs.Asked.{InRange};
 ghost use Rattle.room.specs.Areas.{view};
@@ -11,6 +10,7 @@ ghost use Rattle.room.specs.Bounds.{LongEnough, IsEntry};
 ghost use Rattle.states.specs.StatesIn.{Placed};
 ghost use Rattle.least_sets.specs.Least.{leastSlot, leastOf, OnlyLeast};
 ghost use Rattle.least_sets.specs.Giving.{isGiven, entryGiven, entryLacks, Readable, RunGiven, runHas, givenLeast, hasLeast};
+use first::rounds::either;
 use grammar::items::at_start;
 use grammar::records::symbol;
 use lookahead::join_into;
@@ -26,16 +26,6 @@ pub fn least_slot(k: usize) -> usize
     ensures { λ r. ⌜ r ≡ leastSlot k ⌝ }
 {
     2176 + k
-}
-
-// One of the two holds.
-pub fn either(a: bool, b: bool) -> bool
-    ensures { λ r. ⌜ r ≡ pick a true b ⌝ }
-{
-    if a {
-        return true;
-    }
-    b
 }
 
 // Item i is given tokens: it is item x itself, or it is one of nonterminal x with its dot at the start.

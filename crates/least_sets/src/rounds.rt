@@ -19,9 +19,9 @@ ghost use Rattle.least_sets.specs.Least.{leastSlot, leastEntry, leastOf,
 ghost use Rattle.least_sets.specs.Steps.{Ready, HasEntry, closingPut, movedFrom, hasMoved, closedFrom, hasClosing, movedLeast, isMoved, closedLeast, isClosed};
 ghost use Rattle.least_sets.specs.Steps.{settledLeast, isSettled, stateLeast, isStateSettled, roundLeast, isRoundSettled};
 ghost use Rattle.least_sets.specs.Rounds.{roundsLeast};
-use super::give::either;
 use super::give::give;
 use super::give::least_slot;
+use first::rounds::either;
 use first::suffix::first1;
 use grammar::items::at_end;
 use grammar::items::symbol_behind;

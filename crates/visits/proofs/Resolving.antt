@@ -1,5 +1,5 @@
 -- The visit of a state: its actions, its lane table, and what is resolved by it.
-use Prim.Native.Nat.{ℕ, zero, suc, _<_, _≤_}
+use Prim.Native.Nat.{ℕ, _<_, _≤_}
 use mathlib.Core.Path.{_≡_, refl, sym, ap, subst, _∙_}
 use mathlib.Core.Bool.{Bool, true, false}
 use mathlib.Core.List.{List, [], _∷_}
@@ -18,18 +18,16 @@ use Rattle.rules.specs.Lanes.{Action, actionsAt, laneTable}
 use Rattle.rules.specs.Merge.{resolveBy, resolve}
 use Rattle.rules.specs.declared.StateIndex.{StateIndex}
 use Rattle.rules.specs.declared.BuildRefusal.the-variants.{Actions}
-use Rattle.room.specs.Areas.{Room, withActions}
+use Rattle.room.specs.Areas.{Room}
 use Rattle.room.specs.Bounds.{IsState}
 use Rattle.room.specs.Slots.{entrySlot}
 use Rattle.lookahead.specs.Sets.{loadSet, setAt}
 use Rattle.states.specs.StatesIn.{entryIn, statesIn, stateIn, PlacedAt, Placed}
 use Rattle.states.proofs.Places.{placed-same, states-same}
 use Rattle.states.proofs.States.{state-at, entry-same}
-use Rattle.state_graph.specs.Links.{withLinksOf}
 use Rattle.lane_table.specs.declared.Lanes.{Lanes}
 use Rattle.lane_table.specs.Actions.{actionOf, actionsIn, Tracing, tableOf, LaneTableBuilt}
-use Rattle.lane_table.specs.Traces.{firstsFor, statesOf, OnlyLanes}
-use Rattle.lane_table.proofs.Frames as lanes
+use Rattle.lane_table.proofs.Built as lanes
 use Rattle.actions.specs.declared.put.Acting.{Acting}
 use Rattle.actions.specs.declared.put.Acting.the-variants.{Columns, TooMany}
 use Rattle.actions.specs.Puts.{InColumns, PutInto, ActionsPut}
@@ -149,21 +147,9 @@ module _ (bytes : List ℕ) (n count : ℕ) (state : StateIndex) (v : Room) (rea
 
       -- the lane table was built
       module _ (w : Room) (built : LaneTableBuilt bytes own (state .0) p w) where
-        abbrev linked : Room
-        linked = withLinksOf w p
-
-        built-placed : Placed size count w
-        built-placed = lanes.placed-kept linked w (built .only) size count (same-placed p linked refl refl refl size count put-placed)
-
-        built-states : statesIn w count ≡ statesIn v count
-        built-states =
-            lanes.states-kept linked w (built .only) size count (same-placed p linked refl refl refl size count put-placed)
-            ∙ same-states p linked refl refl refl size count put-placed
-            ∙ put-states
-
         built-actions : actionsFor own w ≡ ours
         unfolding actionsIn
-        built-actions = ap (λ (l : List ℕ). eachFrom (λ k. actionOf (getD l k 0)) 0 c) (ap (λ (r : Room). r .actions) (built .only .others)) ∙ in-columns .are
+        built-actions = ap (λ (l : List ℕ). eachFrom (λ k. actionOf (getD l k 0)) 0 c) (lanes.built-actions bytes own (state .0) p w built) ∙ in-columns .are
 
         built-table : tableOf own w ≡ laneTable (records bytes) (firstSets (records bytes)) (statesIn v count) (state .0) ours
         built-table =
@@ -173,10 +159,10 @@ module _ (bytes : List ℕ) (n count : ℕ) (state : StateIndex) (v : Room) (rea
             ∙ ap (laneTable (records bytes) (firstSets (records bytes)) (statesIn v count) (state .0)) (in-columns .are)
 
         built-only : OnlyVisited p w
-        built-only = record { firsts = λ slot h. built .only .slots slot (omega arith); rest = ap (λ (r : Room). r .rest) (built .only .others) }
+        built-only = record { firsts = λ slot h. built .only .slots slot (omega arith); rest = lanes.built-rest bytes own (state .0) p w built }
 
         pub can-resolve : Resolvable bytes own (state .0) w
-        can-resolve = record { clean = ready .clean; counted = ready .counted; placed = built-placed; narrow = in-columns .few; state = low }
+        can-resolve = record { clean = ready .clean; counted = ready .counted; placed = lanes.built-placed bytes own (state .0) p w built size count put-placed; narrow = in-columns .few; state = low }
 
         -- and the state resolved by it
         module _ (r : Walked) (q : Room) (by : ResolvesBy bytes own (state .0) w r q) where
@@ -192,7 +178,7 @@ module _ (bytes : List ℕ) (n count : ℕ) (state : StateIndex) (v : Room) (rea
           pub resolved : (c ≡ 0 → ⊥) → Resolves bytes n (state .0) count v r q
           resolved some = record {
             outcome = by .outcome
-                ∙ ap (λ states. resolveBy limits (records bytes) states (state .0) (actionsFor own w) (tableOf own w)) built-states
+                ∙ ap (λ states. resolveBy limits (records bytes) states (state .0) (actionsFor own w) (tableOf own w)) (lanes.built-states bytes own (state .0) p w built size count put-placed ∙ put-states)
                 ∙ ap (λ l. resolveBy limits (records bytes) (statesIn v count) (state .0) l (tableOf own w)) built-actions
                 ∙ ap (resolveBy limits (records bytes) (statesIn v count) (state .0) ours) built-table
                 ∙ sym (resolve-few (records bytes) (firstSets (records bytes)) (state .0) (statesIn v count) ours are-ours (omega (arith, in-columns .count)) (omega (arith, in-columns .count, in-columns .few)));

@@ -1,5 +1,5 @@
 -- The visits turn by turn: what is left of them gives the same outcome.
-use Prim.Native.Nat.{ℕ, zero, suc, _+_, _-_, _<_, _≤_}
+use Prim.Native.Nat.{ℕ, suc, _+_, _-_, _<_, _≤_}
 use mathlib.Core.Path.{_≡_, refl, sym, ap, _∙_}
 use mathlib.Core.Bool.{Bool, true, false}
 use mathlib.Core.List.{List}
@@ -8,7 +8,7 @@ use lib.ListN.{length}
 use lib.Dec.{ltb}
 use borrow.Author.Tests.{lt-ltb, le-ltb}
 use Rattle.rules.specs.Limits.{limits, maxStates}
-use Rattle.rules.specs.Records.{Grammar, records}
+use Rattle.rules.specs.Records.{records}
 use Rattle.rules.specs.First.{firstSets}
 use Rattle.rules.specs.States.{State, Outcome, done, refused}
 use Rattle.rules.specs.Merge.{resolve, resolveFrom, resolveAll}

@@ -7,12 +7,12 @@ use lib.ListN.{length}
 use Rattle.rules.specs.Limits.{limits, maxStates}
 use Rattle.rules.specs.Records.{records}
 use Rattle.rules.specs.First.{firstSets}
-use Rattle.rules.specs.States.{State, Outcome, done, refused, lr0States}
-use Rattle.rules.specs.Merge.{resolve, resolveAll, lanes}
+use Rattle.rules.specs.States.{done, lr0States}
+use Rattle.rules.specs.Merge.{resolveAll, lanes}
 use Rattle.rules.specs.declared.BuildRefusal.{BuildRefusal}
 use Rattle.room.specs.Areas.{Room, view}
 use Rattle.first.specs.Firsts.{firstsIn}
-use Rattle.states.specs.StatesIn.{statesIn, Placed}
+use Rattle.states.specs.StatesIn.{statesIn}
 use Rattle.states.proofs.States.{states-length}
 use Rattle.lr.specs.declared.Built.{Built}
 use Rattle.lr.specs.declared.Built.the-variants.{States, Refused as NotBuilt}
@@ -20,7 +20,7 @@ use Rattle.construct.specs.declared.Walked.{Walked}
 use Rattle.construct.specs.declared.Walked.the-variants.{Done, Refused}
 use Rattle.merging.specs.Visits.{statesAfter}
 use Rattle.collection.specs.Collections.{Collectable, statesTo, PlacedTo, OnlyCollected, StatesBuilt}
-use Rattle.visits.specs.Visits.{Visitable, OnlyVisited, VisitedTo, Visited, Resolves, ResolvesAll, Constructs}
+use Rattle.visits.specs.Visits.{Visitable, OnlyVisited, VisitedTo, Resolves, ResolvesAll, Constructs}
 use Rattle.visits.proofs.Frames.{only-none, only-both, firsts-stay}
 use Rattle.visits.proofs.Turns.{visitRest, visits-begin, visit-done, visit-refused, visit-ends}
 
