@@ -2,9 +2,11 @@
 // symbol, target.
 use answers::Said;
 use libc::STDOUT_FILENO;
+use rules::BuildAnswer;
 ghost use Prim.Native.Nat.{_*_, _≤_};
 ghost use lib.ListN.{length};
 ghost use Rattle.grammar.specs.Asked.{InRange};
+ghost use Rattle.text.specs.Tables.{RecordsWithin};
 
 // Writes a word and two numbers behind it.
 fn write_numbers(to: i32, word: &[u8], a: u64, b: u64) {
@@ -78,5 +80,15 @@ pub fn write_records(table: &[u8], count: usize)
 {
     for i in 0..count {
         write_record(table, i);
+    }
+}
+
+// Writes the answer of the builder, and behind that of a built table its records.
+pub fn write_built(answer: BuildAnswer, table: &[u8])
+    requires { ⌜ RecordsWithin answer (now table) ⌝ }
+{
+    write_said(STDOUT_FILENO, answers::build_said(answer));
+    if let BuildAnswer::Built(states, records) = answer {
+        write_records(table, records);
     }
 }
