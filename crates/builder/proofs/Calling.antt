@@ -23,13 +23,14 @@ use Rattle.rules.specs.declared.BuildRefusal.the-variants.{Mode, WorkRoom, Gram
 use Rattle.rules.specs.declared.BuildAnswer.{BuildAnswer}
 use Rattle.rules.specs.declared.BuildAnswer.the-variants.{Built, NotBuilt}
 use Rattle.rules.proofs.Rooms.{built-keeps-rest}
-use Rattle.grammar.proofs.Coded.{coded-some, coded-short, coded-whole, coded-faultless, terminal-count-below, nonterminal-count-below}
+use Rattle.grammar.proofs.Coded.{coded-faultless, terminal-count-below, nonterminal-count-below}
 use Rattle.room.specs.Areas.{view}
 use Rattle.room.proofs.Clearing.{view-cleared, cleared-same}
 use Rattle.first.specs.Asked.{Counted}
 use Rattle.first.specs.Firsts.{firstsIn}
 use Rattle.first.proofs.Loads.{blank-firsts}
 use Rattle.collection.specs.Collections.{Collectable}
+use Rattle.collection.proofs.Asked.{coded-collectable}
 use Rattle.table_records.specs.Result.{gaveIn}
 use Rattle.builder.specs.Results.{Gives}
 
@@ -97,11 +98,7 @@ module _ (bytes : List ℕ) (n m : ℕ) (coded : grammarAnswer limits bytes ≡ 
   no-firsts-yet work none = none ∙ ap (λ k. replicate k 0) (sym are-m)
 
   pub collectable : (size : ℕ) (work : List ℕ) → workSize ≤ size → length work ≡ size → Collectable bytes n m work
-  collectable size work long same = record {
-    closable = record { clean = coded-faultless bytes coded; short = coded-short bytes coded; few = omega (arith, terminal-count-below (records bytes) (coded-faultless bytes coded)); long = omega arith };
-    counted = numbers-counted;
-    some = omega (arith, coded-some bytes coded, coded-whole bytes coded);
-  }
+  collectable size work long same = coded-collectable bytes n m work coded are-n are-m (omega arith)
 
 -- ---- the records of a built table lie within the room
 pub built-fits : (mode : ℕ) (bytes table work : List ℕ) (answer : BuildAnswer) (after left : List ℕ) → gaveIn answer after left ≡ build limits mode bytes table work
