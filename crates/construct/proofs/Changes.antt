@@ -17,7 +17,7 @@ use Rattle.marks.specs.Marks.{walkedIn}
 use Rattle.states.specs.StatesIn.{entryIn, firstOf, stateIn, statesIn, Placed}
 use Rattle.states.proofs.Places.{one-state, placed-same}
 use Rattle.states.proofs.States.{state-at, first-same, state-same, entry-same}
-use Rattle.lane_table.specs.declared.Lanes.{Lanes}
+use Rattle.lane.specs.declared.Lanes.{Lanes}
 use Rattle.groups.specs.MergeIn.{originIn, headIn, mergeIn}
 use Rattle.groups.specs.Groups.{Grouped, Regrouped, OnlyClosure}
 use Rattle.groups.proofs.Merged.{merge-parts}

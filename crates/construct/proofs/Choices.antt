@@ -18,7 +18,7 @@ use Rattle.rules.specs.States.{Outcome, done}
 use Rattle.rules.specs.Lanes.{LaneTable}
 use Rattle.rules.specs.Merge.{Merge, Joining, originOf, canJoin, clonesOf, joined, joinNew, withNew, placeJoining, joinSuccessor}
 use Rattle.room.specs.Areas.{Room}
-use Rattle.lane_table.specs.declared.Lanes.{Lanes}
+use Rattle.lane.specs.declared.Lanes.{Lanes}
 use Rattle.groups.specs.MergeIn.{originIn, mergeIn, tableOf}
 use Rattle.groups.specs.Groups.{OnlyClosure}
 use Rattle.groups.proofs.Merged.{origin-at}

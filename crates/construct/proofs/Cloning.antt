@@ -18,7 +18,7 @@ use Rattle.marks.specs.Marks.{walkedIn}
 use Rattle.states.specs.StatesIn.{entryIn, firstOf, stateIn, statesIn, PlacedAt, Placed}
 use Rattle.states.proofs.Places.{placed-kept, states-kept}
 use Rattle.states.proofs.States.{states-length, state-at, states-more, state-run, run-copied}
-use Rattle.lane_table.specs.declared.Lanes.{Lanes}
+use Rattle.lane.specs.declared.Lanes.{Lanes}
 use Rattle.groups.specs.MergeIn.{originIn, mergeIn}
 use Rattle.groups.proofs.Merged.{origin-at, merge-parts}
 use Rattle.clones.specs.Clones.{sizeOf, Cloneable, Cloned}

@@ -16,8 +16,8 @@ use Rattle.room.specs.Areas.{Room}
 use Rattle.lookahead.specs.Sets.{loadSet}
 use Rattle.marks.specs.Marks.{successorsIn}
 use Rattle.states.specs.StatesIn.{Placed}
-use Rattle.lane_table.specs.Table.{firstSlotOf, rowIn, tableIn}
-use Rattle.lane_table.specs.declared.Lanes.{Lanes}
+use Rattle.lane.specs.Table.{firstSlotOf, rowIn, tableIn}
+use Rattle.lane.specs.declared.Lanes.{Lanes}
 use Rattle.groups.specs.MergeIn.{tableOf}
 use Rattle.construct.specs.Merges.{Mergeable, OnlyMerge}
 

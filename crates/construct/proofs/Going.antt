@@ -22,7 +22,7 @@ use Rattle.marks.specs.Marks.{successorsIn, walkedIn, stateWalked}
 use Rattle.marks.proofs.Changes.{state-walked}
 use Rattle.states.specs.StatesIn.{entryIn, stateIn, statesIn}
 use Rattle.states.proofs.Places.{placed-same}
-use Rattle.lane_table.specs.declared.Lanes.{Lanes}
+use Rattle.lane.specs.declared.Lanes.{Lanes}
 use Rattle.walks.specs.Whole.{walksLeft, walked, goneOn, overSuccessor}
 use Rattle.walks.proofs.Whole.{walk-seen, walk-goes}
 use Rattle.walks.proofs.Left.{mark-walked-left, walk-left, joining-left}

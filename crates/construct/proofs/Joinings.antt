@@ -14,7 +14,7 @@ use Rattle.rules.specs.Merge.{Merge, canJoin, joined, patchLinks, joinNew, with
 use Rattle.rules.specs.declared.StateIndex.{StateIndex}
 use Rattle.room.specs.Areas.{Room}
 use Rattle.states.specs.StatesIn.{PlacedAt}
-use Rattle.lane_table.specs.declared.Lanes.{Lanes}
+use Rattle.lane.specs.declared.Lanes.{Lanes}
 use Rattle.groups.specs.MergeIn.{mergeIn, tableOf}
 use Rattle.groups.specs.Groups.{Regrouped, OnlyClosure}
 use Rattle.groups.proofs.Merged.{merge-count}

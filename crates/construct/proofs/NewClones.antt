@@ -19,7 +19,7 @@ use Rattle.room.proofs.Lengths.{view-lengths}
 use Rattle.states.specs.StatesIn.{firstOf, statesIn, PlacedAt, Placed}
 use Rattle.states.proofs.Places.{firsts-ascend, end-within, item-count}
 use Rattle.states.proofs.States.{state-at, entry-count}
-use Rattle.lane_table.specs.declared.Lanes.{Lanes}
+use Rattle.lane.specs.declared.Lanes.{Lanes}
 use Rattle.groups.specs.MergeIn.{mergeIn, tableOf}
 use Rattle.groups.specs.Groups.{Grouped, Regrouped, OnlyClosure}
 use Rattle.groups.proofs.Merged.{merge-count}

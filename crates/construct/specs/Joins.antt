@@ -11,7 +11,7 @@ use Rattle.rules.specs.States.{Outcome, done, refused}
 use Rattle.rules.specs.Lanes.{LaneTable}
 use Rattle.rules.specs.Merge.{Merge, Joining, originOf, canJoin, joinNew, withNew, joinSuccessor}
 use Rattle.room.specs.Areas.{Room}
-use Rattle.lane_table.specs.declared.Lanes.{Lanes}
+use Rattle.lane.specs.declared.Lanes.{Lanes}
 use Rattle.groups.specs.MergeIn.{mergeIn, tableOf}
 use Rattle.construct.specs.Merges.{OnlyMerge, Grown}
 use Rattle.construct.specs.declared.Joined.{Joined}

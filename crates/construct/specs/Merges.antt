@@ -10,8 +10,8 @@ use Rattle.room.specs.Areas.{Room}
 use Rattle.room.specs.Slots.{closureSlot}
 use Rattle.lookahead.specs.Sets.{setAt}
 use Rattle.states.specs.StatesIn.{Placed}
-use Rattle.lane_table.specs.Table.{firstCell}
-use Rattle.lane_table.specs.declared.Lanes.{Lanes}
+use Rattle.lane.specs.Table.{firstCell}
+use Rattle.lane.specs.declared.Lanes.{Lanes}
 use Rattle.groups.specs.Groups.{Grouped}
 
 -- the grammar is coded, the states are in place, and each state's original has a row

@@ -7,7 +7,7 @@ use Rattle.rules.specs.Records.{records}
 use Rattle.rules.specs.States.{Outcome, done, refused}
 use Rattle.rules.specs.Merge.{Merge}
 use Rattle.room.specs.Areas.{Room}
-use Rattle.lane_table.specs.declared.Lanes.{Lanes}
+use Rattle.lane.specs.declared.Lanes.{Lanes}
 use Rattle.walks.specs.Whole.{walked}
 use Rattle.groups.specs.MergeIn.{mergeIn, tableOf}
 use Rattle.construct.specs.Merges.{OnlyMerge, Grown}

@@ -16,7 +16,7 @@ use conflicts::conflict_count;
 use groups::can_join;
 use groups::join_groups;
 use groups::origin;
-use lane_table::Lanes;
+use lane::Lanes;
 use marks::successors::has_successor;
 use marks::walked::mark_walked;
 use marks::walked::was_walked;

@@ -16,7 +16,7 @@ use Rattle.rules.specs.Tokens.{TokenSet}
 use Rattle.rules.specs.Lanes.{joinColumns}
 use Rattle.room.specs.Areas.{Room}
 use Rattle.lookahead.specs.Sets.{loadSet}
-use Rattle.lane_table.specs.Table.{firstCell, firstSlotOf, cellSlot}
+use Rattle.lane.specs.Table.{firstCell, firstSlotOf, cellSlot}
 use Rattle.context_set.specs.Columns.{columnsAt, columnsJoined, OnlyColumns, Columned}
 use Rattle.groups.specs.MergeIn.{originIn, headIn}
 use Rattle.groups.specs.Groups.{Rowed, rowAt, withMember, gathered}

@@ -20,8 +20,8 @@ use Rattle.rules.specs.Merge.{Merge, headOf, rowOfOrigin, groupColumns, canJoin
 use Rattle.room.specs.Areas.{Room}
 use Rattle.room.specs.Slots.{closureSlot, entrySlot}
 use Rattle.lookahead.specs.Sets.{loadSet}
-use Rattle.lane_table.specs.declared.Lanes.{Lanes}
-use Rattle.lane_table.specs.Table.{rowIn, tableIn}
+use Rattle.lane.specs.declared.Lanes.{Lanes}
+use Rattle.lane.specs.Table.{rowIn, tableIn}
 use Rattle.context_set.specs.Columns.{columnsAt, columnsJoined, OnlyColumns, Columned}
 use Rattle.groups.specs.MergeIn.{originIn, headIn, mergeIn, tableOf}
 use Rattle.groups.specs.Groups.{Rowed, Grouped, rowAt, gathered, OnlyClosure}

@@ -12,8 +12,8 @@ use Rattle.rules.specs.Lanes.{joinColumns}
 use Rattle.rules.specs.Merge.{joinGroups}
 use Rattle.room.specs.Areas.{Room, putHead, withHeads}
 use Rattle.room.specs.Slots.{closureSlot}
-use Rattle.lane_table.specs.Table.{firstSlotOf}
-use Rattle.lane_table.specs.declared.Lanes.{Lanes}
+use Rattle.lane.specs.Table.{firstSlotOf}
+use Rattle.lane.specs.declared.Lanes.{Lanes}
 use Rattle.context_set.specs.Columns.{columnsAt, OnlyColumns}
 use Rattle.groups.specs.MergeIn.{originIn, headIn, mergeIn}
 

@@ -7,8 +7,8 @@ use Rattle.rules.specs.Merge.{Merge}
 use Rattle.room.specs.Areas.{Room}
 use Rattle.marks.specs.Marks.{walkedIn}
 use Rattle.states.specs.StatesIn.{statesIn}
-use Rattle.lane_table.specs.Table.{tableIn}
-use Rattle.lane_table.specs.declared.Lanes.{Lanes}
+use Rattle.lane.specs.Table.{tableIn}
+use Rattle.lane.specs.declared.Lanes.{Lanes}
 
 -- the state that s is a clone of, and the head of its group
 abbrev pub originIn : Room → ℕ → ℕ

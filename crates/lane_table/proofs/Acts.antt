@@ -22,15 +22,15 @@ use Rattle.state_graph.specs.Links.{Linked}
 use Rattle.traces.specs.Whole.{traceBegun}
 use Rattle.traces.proofs.Whole.{action-goes, back-closed, back-shifted}
 use Rattle.lane_table.specs.Actions.{actionOf, ActionFits, Tracing, tableOf, ActionTraced}
-use Rattle.lane_table.specs.Changes.{tokensEntered, handEntered}
+use Rattle.lane.specs.Changes.{tokensEntered, handEntered}
 use Rattle.lane_table.specs.Clears.{VisitsCleared}
-use Rattle.lane_table.specs.Traces.{firstsFor, statesOf, traceOf, OnlyLanes, Traceable, ShiftTraced, CloseTraced}
-use Rattle.lane_table.specs.declared.Lanes.{Lanes}
-use Rattle.lane_table.proofs.Cells.{entered-by}
+use Rattle.lane.specs.Traces.{firstsFor, statesOf, traceOf, OnlyLanes, Traceable, ShiftTraced, CloseTraced}
+use Rattle.lane.specs.declared.Lanes.{Lanes}
+use Rattle.lane.proofs.Cells.{entered-by}
 use Rattle.lane_table.proofs.Clears.{cleared-trace, cleared-only}
-use Rattle.lane_table.proofs.Frames.{only-both, hand-enters, states-kept, firsts-kept}
-use Rattle.lane_table.proofs.Going.{ready-kept}
-use Rattle.lane_table.proofs.Changed.{entered-by-hand}
+use Rattle.lane.proofs.Frames.{only-both, hand-enters, states-kept, firsts-kept}
+use Rattle.lane.proofs.Going.{ready-kept}
+use Rattle.lane.proofs.Changed.{entered-by-hand}
 
 -- ---- a shift
 module _ (bytes : List ℕ) (lanes : Lanes) (c s t hand : ℕ) (w : List ℕ) (p q : Room) (fits : LongEnough w) (state : s < lanes .states) (few : lanes .states ≤ maxStates)

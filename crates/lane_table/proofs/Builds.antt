@@ -15,10 +15,10 @@ use Rattle.state_graph.specs.Links.{withLinksOf, Linked, StatesLinked}
 use Rattle.state_graph.proofs.Linking.{still-placed, same-states}
 use Rattle.lane_table.specs.Actions.{actionOf, actionAt, actionsIn, ActionFits, Tracing, tableOf, Tabled, ActionTraced, tracedFrom, ActionsTraced, LaneTableBuilt}
 use Rattle.lane_table.specs.Clears.{emptyRow, RowsCleared}
-use Rattle.lane_table.specs.Traces.{firstsFor, statesOf, OnlyLanes}
-use Rattle.lane_table.specs.declared.Lanes.{Lanes}
+use Rattle.lane.specs.Traces.{firstsFor, statesOf, OnlyLanes}
+use Rattle.lane.specs.declared.Lanes.{Lanes}
 use Rattle.lane_table.proofs.Clears.{empty-table}
-use Rattle.lane_table.proofs.Frames.{only-none, only-both, placed-kept, linked-kept, states-kept, firsts-kept}
+use Rattle.lane.proofs.Frames.{only-none, only-both, placed-kept, linked-kept, states-kept, firsts-kept}
 
 actions-same : (v q : Room) → OnlyLanes v q → q .actions ≡ v .actions
 actions-same v q only = ap (λ (r : Room). r .actions) (only .others)

@@ -7,8 +7,8 @@ use Rattle.states.specs.StatesIn.{statesIn, Placed}
 use Rattle.state_graph.specs.Links.{withLinksOf, OnlyLinks}
 use Rattle.state_graph.proofs.Linking.{still-placed, same-states}
 use Rattle.lane_table.specs.Actions.{LaneTableBuilt}
-use Rattle.lane_table.specs.declared.Lanes.{Lanes}
-use Rattle.lane_table.proofs.Frames.{placed-kept, states-kept}
+use Rattle.lane.specs.declared.Lanes.{Lanes}
+use Rattle.lane.proofs.Frames.{placed-kept, states-kept}
 
 module _ (bytes : List ℕ) (lanes : Lanes) (s : ℕ) (v q : Room) (built : LaneTableBuilt bytes lanes s v q) where
   relinked : OnlyLinks v (withLinksOf q v)

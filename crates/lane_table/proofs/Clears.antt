@@ -16,9 +16,9 @@ use Rattle.context_set.specs.Columns.{columnsAt, OnlyColumns, Columned}
 use Rattle.marks.specs.Marks.{visitedIn, successorsIn, visitedCleared, successorsCleared}
 use Rattle.marks.proofs.Changes.{blanked-length, visited-none, visited-left, successors-none, successors-left}
 use Rattle.lane_table.specs.Clears.{VisitsCleared, emptyRow, RowCleared, RowsCleared}
-use Rattle.lane_table.specs.Table.{firstCell, firstSlotOf, cellSlot, rowIn, tableIn, visitsIn, traceIn}
-use Rattle.lane_table.specs.Traces.{elsewhere, OnlyLanes}
-use Rattle.lane_table.proofs.Frames.{only-none, only-both, mark-only, sized-kept}
+use Rattle.lane.specs.Table.{firstCell, firstSlotOf, cellSlot, rowIn, tableIn, visitsIn, traceIn}
+use Rattle.lane.specs.Traces.{elsewhere, OnlyLanes}
+use Rattle.lane.proofs.Frames.{only-none, only-both, mark-only, sized-kept}
 
 -- ---- the items visited, state by state
 pub visits-start : (v : Room) → VisitsCleared 0 v v

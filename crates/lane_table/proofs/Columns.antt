@@ -20,8 +20,8 @@ use Rattle.lookahead.specs.Sets.{loadSet}
 use Rattle.context_set.specs.Columns.{columnsAt, columnsJoined, OnlyColumns, Columned}
 use Rattle.marks.specs.Marks.{successorsIn}
 use Rattle.lane_table.specs.Beachheads.{isBeachhead}
-use Rattle.lane_table.specs.Table.{firstCell, firstSlotOf, cellSlot, rowIn, tableIn}
-use Rattle.lane_table.proofs.Changed.{row-at}
+use Rattle.lane.specs.Table.{firstCell, firstSlotOf, cellSlot, rowIn, tableIn}
+use Rattle.lane.proofs.Changed.{row-at}
 
 -- ---- no row has a token in two columns
 abbrev pub isDisjoint : Row → Bool

@@ -1,13 +1,5 @@
 pub mod Acts
 pub mod Builds
 pub mod Built
-pub mod Cells
-pub mod Changed
 pub mod Clears
-pub mod CloseLoop
 pub mod Columns
-pub mod Frames
-pub mod Going
-pub mod Items
-pub mod Pairs
-pub mod ShiftLoop

@@ -16,9 +16,9 @@ use Rattle.room.specs.Bounds.{FewTerminals}
 use Rattle.lookahead.specs.Sets.{IsToken}
 use Rattle.states.specs.StatesIn.{Placed}
 use Rattle.state_graph.specs.Links.{withLinksOf}
-use Rattle.lane_table.specs.declared.Lanes.{Lanes}
-use Rattle.lane_table.specs.Table.{tableIn}
-use Rattle.lane_table.specs.Traces.{firstsFor, statesOf, OnlyLanes}
+use Rattle.lane.specs.declared.Lanes.{Lanes}
+use Rattle.lane.specs.Table.{tableIn}
+use Rattle.lane.specs.Traces.{firstsFor, statesOf, OnlyLanes}
 
 -- ---- the actions of the state at hand
 -- an action as a number: twice the terminal of a shift, one more than twice the item of a reduction

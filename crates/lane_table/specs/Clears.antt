@@ -7,8 +7,8 @@ use lib.ListN.{length, replicate}
 use Rattle.rules.specs.Lanes.{Row}
 use Rattle.room.specs.Areas.{Room, withVisited}
 use Rattle.marks.specs.Marks.{visitedIn}
-use Rattle.lane_table.specs.Table.{rowIn}
-use Rattle.lane_table.specs.Traces.{OnlyLanes}
+use Rattle.lane.specs.Table.{rowIn}
+use Rattle.lane.specs.Traces.{OnlyLanes}
 
 -- q is v but that no item is visited in the first states
 pub record VisitsCleared (count : ℕ) (v q : Room) : Type 0 where

@@ -2,7 +2,7 @@
 ghost use Rattle.room.specs.Areas.{view};
 ghost use Rattle.room.specs.Bounds.{LongEnough};
 ghost use Rattle.lane_table.specs.Actions.{Tracing, LaneTableBuilt};
-use super::Lanes;
+use lane::Lanes;
 use super::action::trace_actions;
 use super::clear::clear_rows;
 use rules::StateIndex;

@@ -9,7 +9,7 @@ ghost use Rattle.room.specs.Slots.{closureSlot};
 ghost use Rattle.context_set.specs.Columns.{Columned};
 ghost use Rattle.lane_table.specs.Actions.{tableOf};
 ghost use Rattle.lane_table.specs.Beachheads.{isBeachhead};
-use super::Lanes;
+use lane::Lanes;
 use context_set::clear_columns;
 use context_set::columns_disjoint;
 use context_set::join_columns;

@@ -20,7 +20,7 @@ use Rattle.marks.proofs.Changes.{walked-none}
 use Rattle.states.specs.StatesIn.{entryIn, stateIn, statesIn}
 use Rattle.states.proofs.Places.{placed-same}
 use Rattle.states.proofs.States.{states-length}
-use Rattle.lane_table.specs.declared.Lanes.{Lanes}
+use Rattle.lane.specs.declared.Lanes.{Lanes}
 use Rattle.groups.specs.MergeIn.{originIn, headIn}
 use Rattle.groups.proofs.Merged.{origin-at, merge-parts}
 use Rattle.construct.specs.Merges.{elsewhere, OnlyMerge, Mergeable}

@@ -17,7 +17,7 @@ use Rattle.room.specs.Areas.{Room}
 use Rattle.room.specs.Slots.{closureSlot}
 use Rattle.context_set.specs.Columns.{columnsAt, Columned}
 use Rattle.states.specs.StatesIn.{statesIn}
-use Rattle.lane_table.specs.declared.Lanes.{Lanes}
+use Rattle.lane.specs.declared.Lanes.{Lanes}
 use Rattle.groups.specs.MergeIn.{originIn, headIn, mergeIn, tableOf}
 use Rattle.groups.specs.Groups.{gathered}
 use Rattle.groups.proofs.Members.{columns-none, columns-both}

@@ -16,7 +16,7 @@ use Rattle.states.specs.StatesIn.{entryIn, firstOf, stateIn, statesIn, PlacedAt
 use Rattle.states.proofs.Places.{one-state, placed-same}
 use Rattle.states.proofs.States.{first-same, state-at, state-same}
 use Rattle.lane_table.specs.Actions.{actionsIn}
-use Rattle.lane_table.specs.declared.Lanes.{Lanes}
+use Rattle.lane.specs.declared.Lanes.{Lanes}
 use Rattle.groups.specs.MergeIn.{originIn, headIn, mergeIn, tableOf}
 use Rattle.groups.proofs.Merged.{merge-count}
 use Rattle.groups.proofs.Moves.{map-each}

@@ -16,8 +16,8 @@ use Rattle.rules.specs.declared.BuildRefusal.the-variants.{Conflicts}
 use Rattle.room.specs.Areas.{Room}
 use Rattle.room.specs.Slots.{closureSlot}
 use Rattle.context_set.specs.Columns.{columnsAt, Columned}
-use Rattle.lane_table.specs.Traces.{statesOf}
-use Rattle.lane_table.specs.declared.Lanes.{Lanes}
+use Rattle.lane.specs.Traces.{statesOf}
+use Rattle.lane.specs.declared.Lanes.{Lanes}
 use Rattle.groups.specs.MergeIn.{mergeIn, tableOf}
 use Rattle.groups.proofs.Tested.{closure-only}
 use Rattle.construct.specs.Merges.{OnlyMerge, Mergeable, Grown}

@@ -14,7 +14,7 @@ use Rattle.rules.specs.Merge.{Merge, walk}
 use Rattle.rules.specs.declared.BuildRefusal.{BuildRefusal}
 use Rattle.room.specs.Areas.{Room}
 use Rattle.lane_table.specs.Beachheads.{isBeachhead}
-use Rattle.lane_table.specs.declared.Lanes.{Lanes}
+use Rattle.lane.specs.declared.Lanes.{Lanes}
 use Rattle.walks.proofs.Turns.{turn-passed, turn-done, turn-refused, turn-end}
 use Rattle.walks.proofs.Whole.{merge-rows-walk}
 use Rattle.groups.specs.MergeIn.{mergeIn, tableOf}

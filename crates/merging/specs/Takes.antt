@@ -15,7 +15,7 @@ use Rattle.room.specs.Slots.{closureSlot}
 use Rattle.context_set.specs.Columns.{OnlyColumns}
 use Rattle.states.specs.StatesIn.{statesIn}
 use Rattle.lane_table.specs.Actions.{actionsIn}
-use Rattle.lane_table.specs.declared.Lanes.{Lanes}
+use Rattle.lane.specs.declared.Lanes.{Lanes}
 use Rattle.groups.specs.MergeIn.{mergeIn, tableOf}
 
 -- state t takes the columns of its group: a step of `takeAll`

@@ -12,8 +12,8 @@ use Rattle.rules.specs.Merge.{Merge, walk, mergeRows, resolveBy}
 use Rattle.grammar.specs.Asked.{Faultless}
 use Rattle.room.specs.Areas.{Room}
 use Rattle.states.specs.StatesIn.{statesIn, Placed}
-use Rattle.lane_table.specs.Traces.{statesOf}
-use Rattle.lane_table.specs.declared.Lanes.{Lanes}
+use Rattle.lane.specs.Traces.{statesOf}
+use Rattle.lane.specs.declared.Lanes.{Lanes}
 use Rattle.groups.specs.MergeIn.{mergeIn, tableOf}
 use Rattle.construct.specs.Merges.{OnlyMerge}
 use Rattle.construct.specs.Walks.{outcomeIn, WalkedTo}

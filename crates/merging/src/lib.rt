@@ -16,7 +16,7 @@ use context_set::columns_disjoint;
 use groups::group_columns;
 use groups::head;
 use groups::origin;
-use lane_table::Lanes;
+use lane::Lanes;
 use lane_table::rows::all_columns;
 use lane_table::rows::is_beachhead;
 use lane_table::rows::rows_disjoint;

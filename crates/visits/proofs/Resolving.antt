@@ -25,7 +25,7 @@ use Rattle.lookahead.specs.Sets.{loadSet, setAt}
 use Rattle.states.specs.StatesIn.{entryIn, statesIn, stateIn, PlacedAt, Placed}
 use Rattle.states.proofs.Places.{placed-same, states-same}
 use Rattle.states.proofs.States.{state-at, entry-same}
-use Rattle.lane_table.specs.declared.Lanes.{Lanes}
+use Rattle.lane.specs.declared.Lanes.{Lanes}
 use Rattle.lane_table.specs.Actions.{actionOf, actionsIn, Tracing, tableOf, LaneTableBuilt}
 use Rattle.lane_table.proofs.Built as lanes
 use Rattle.actions.specs.declared.put.Acting.{Acting}

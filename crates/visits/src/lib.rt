@@ -14,7 +14,7 @@ use actions::put::Acting;
 use actions::put::put_actions;
 use collection::build::build_lr0_states;
 use construct::Walked;
-use lane_table::Lanes;
+use lane::Lanes;
 use lane_table::build::build_lane_table;
 use lr::Built;
 use merging::resolve_by;

@@ -1,7 +1,7 @@
 -- `lane_table::action::trace_reduce` meets its contract.
 use borrow.Author.Needs.{needs}
 use Rattle.lane_table.proofs.Acts.{reduce-ready, reduce-closed, reduce-shifted}
-use Rattle.lane_table.proofs.Items.{start-false}
+use Rattle.lane.proofs.Items.{start-false}
 use Rattle.lane_table.proofs.action.trace_reduce.Statement.{statement}
 use Rattle.lane_table.proofs.action.trace_reduce.Tie as tie
 

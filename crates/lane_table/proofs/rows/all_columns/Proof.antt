@@ -5,7 +5,7 @@ use borrow.Author.Needs.{needs}
 use lib.ListN.{length}
 use Rattle.room.specs.Areas.{view}
 use Rattle.context_set.specs.Columns.{columnsAt, OnlyColumns}
-use Rattle.lane_table.specs.Table.{firstCell}
+use Rattle.lane.specs.Table.{firstCell}
 use Rattle.lane_table.proofs.Columns.{columnsRest, columns-begun, columns-more, columns-turn, columns-end}
 use Rattle.lane_table.proofs.rows.all_columns.Statement.{statement}
 use Rattle.lane_table.proofs.rows.all_columns.Tie as tie

@@ -8,7 +8,7 @@ use Rattle.base.proofs.EachLeft.{each-some-end}
 use Rattle.rules.specs.Lanes.{isSuccessor}
 use Rattle.room.specs.Areas.{view}
 use Rattle.lane_table.specs.Actions.{tableOf}
-use Rattle.lane_table.specs.Table.{rowIn}
+use Rattle.lane.specs.Table.{rowIn}
 use Rattle.lane_table.proofs.Columns.{links, successor-start, successor-turn, successor-found}
 use Rattle.lane_table.proofs.rows.is_successor.Statement.{statement}
 use Rattle.lane_table.proofs.rows.is_successor.Tie as tie

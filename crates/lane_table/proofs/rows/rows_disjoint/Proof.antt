@@ -7,7 +7,7 @@ use Rattle.base.specs.Lists.{eachOf}
 use Rattle.base.proofs.EachLeft.{each-all-turn, each-all-fails, each-all-end}
 use Rattle.rules.specs.Lanes.{rowsDisjoint}
 use Rattle.room.specs.Areas.{view}
-use Rattle.lane_table.specs.Table.{rowIn, tableIn}
+use Rattle.lane.specs.Table.{rowIn, tableIn}
 use Rattle.lane_table.proofs.Columns.{isDisjoint, disjoint-start, row-disjoint}
 use Rattle.lane_table.proofs.rows.rows_disjoint.Statement.{statement}
 use Rattle.lane_table.proofs.rows.rows_disjoint.Tie as tie

@@ -20,12 +20,12 @@ use Rattle.marks.specs.Marks.{visitedIn, successorAdded, itemVisited}
 use Rattle.states.proofs.States.{states-length}
 use Rattle.traces.specs.Whole.{pairsLeft}
 use Rattle.traces.proofs.Left.{shift-left, close-left, visit-left, table-left}
-use Rattle.lane_table.specs.declared.Lanes.{Lanes}
-use Rattle.lane_table.specs.Changes.{startEntered, pastEntered}
-use Rattle.lane_table.specs.Traces.{firstsFor, statesOf, traceOf, leftIn, OnlyLanes, Traceable, ShiftTraced, CloseTraced}
-use Rattle.lane_table.proofs.Frames.{only-none, only-both, only-visit, only-link, only-start, only-past, placed-kept, linked-kept, states-kept, firsts-kept, sized-kept}
-use Rattle.lane_table.proofs.Pairs.{small, was, visited-now}
-use Rattle.lane_table.proofs.Changed.{visited-length, linked-trace, entered-by-hand, start-trace}
+use Rattle.lane.specs.declared.Lanes.{Lanes}
+use Rattle.lane.specs.Changes.{startEntered, pastEntered}
+use Rattle.lane.specs.Traces.{firstsFor, statesOf, traceOf, leftIn, OnlyLanes, Traceable, ShiftTraced, CloseTraced}
+use Rattle.lane.proofs.Frames.{only-none, only-both, only-visit, only-link, only-start, only-past, placed-kept, linked-kept, states-kept, firsts-kept, sized-kept}
+use Rattle.lane.proofs.Pairs.{small, was, visited-now}
+use Rattle.lane.proofs.Changed.{visited-length, linked-trace, entered-by-hand, start-trace}
 
 -- the room at hand in the trace from item i in state s
 pub record Going (bytes : List ℕ) (lanes : Lanes) (c s i : ℕ) (v q : Room) : Type 0 where

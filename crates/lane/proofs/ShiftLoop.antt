@@ -23,12 +23,12 @@ use Rattle.states.proofs.States.{state-at, states-length}
 use Rattle.state_graph.specs.Graph.{leadsTo, precedes, symbolAt}
 use Rattle.traces.specs.Whole.{unShifted, unClosed, overPredecessor}
 use Rattle.traces.proofs.Whole.{shift-goes, shift-seen, back-closed, back-shifted, predecessor-goes}
-use Rattle.lane_table.specs.Traces.{firstsFor, statesOf, traceOf, Traceable, ShiftTraced, CloseTraced}
-use Rattle.lane_table.specs.declared.Lanes.{Lanes}
-use Rattle.lane_table.proofs.Frames.{only-none, only-both, only-visit, only-link, states-kept}
-use Rattle.lane_table.proofs.Going.{Going}
-use Rattle.lane_table.proofs.Pairs.{small, was, below, as-long, recorded, visited-now}
-use Rattle.lane_table.proofs.Changed.{linked-trace}
+use Rattle.lane.specs.Traces.{firstsFor, statesOf, traceOf, Traceable, ShiftTraced, CloseTraced}
+use Rattle.lane.specs.declared.Lanes.{Lanes}
+use Rattle.lane.proofs.Frames.{only-none, only-both, only-visit, only-link, states-kept}
+use Rattle.lane.proofs.Going.{Going}
+use Rattle.lane.proofs.Pairs.{small, was, below, as-long, recorded, visited-now}
+use Rattle.lane.proofs.Changed.{linked-trace}
 
 -- p is a predecessor of s over the symbol of record i, and what is done there, where v is the room in which the loop began
 abbrev before : List ℕ → Lanes → ℕ → ℕ → Room → ℕ → Bool

@@ -28,9 +28,9 @@ use Rattle.states.specs.StatesIn.{entryIn, statesIn, PlaceOf, Placed}
 use Rattle.states.proofs.Places.{end-within, placed-same, states-same}
 use Rattle.states.proofs.States.{entry-same, first-same}
 use Rattle.state_graph.specs.Links.{Seen, Linked}
-use Rattle.lane_table.specs.Changes.{tokensEntered, handEntered, startEntered, pastEntered}
-use Rattle.lane_table.specs.Table.{firstCell, cellSlot}
-use Rattle.lane_table.specs.Traces.{OnlyLanes}
+use Rattle.lane.specs.Changes.{tokensEntered, handEntered, startEntered, pastEntered}
+use Rattle.lane.specs.Table.{firstCell, cellSlot}
+use Rattle.lane.specs.Traces.{OnlyLanes}
 
 pub only-none : (v : Room) → OnlyLanes v v
 only-none v = record { others = refl; visited-words = refl; entered-words = refl; successor-words = refl; set-words = refl; slots = λ slot h. refl }

@@ -25,13 +25,13 @@ use Rattle.states.specs.StatesIn.{entryIn, runIn, firstOf, stateIn, statesIn}
 use Rattle.states.proofs.States.{state-at, first-same}
 use Rattle.traces.specs.Whole.{unClosed, goneBack, overItem}
 use Rattle.traces.proofs.Whole.{close-goes, close-seen, back-closed, back-shifted, item-goes, item-stops}
-use Rattle.lane_table.specs.Changes.{startEntered, pastEntered}
-use Rattle.lane_table.specs.Traces.{firstsFor, statesOf, traceOf, OnlyLanes, Traceable, ShiftTraced, CloseTraced}
-use Rattle.lane_table.specs.declared.Lanes.{Lanes}
-use Rattle.lane_table.proofs.Frames.{firsts-same, entry-kept, only-none, only-both, only-visit, only-start, only-past, states-kept, firsts-kept, sized-kept}
-use Rattle.lane_table.proofs.Going.{Going, past-ready}
-use Rattle.lane_table.proofs.Pairs.{small, was, below, as-long, recorded, visited-now}
-use Rattle.lane_table.proofs.Changed.{start-trace, entered-by-hand}
+use Rattle.lane.specs.Changes.{startEntered, pastEntered}
+use Rattle.lane.specs.Traces.{firstsFor, statesOf, traceOf, OnlyLanes, Traceable, ShiftTraced, CloseTraced}
+use Rattle.lane.specs.declared.Lanes.{Lanes}
+use Rattle.lane.proofs.Frames.{firsts-same, entry-kept, only-none, only-both, only-visit, only-start, only-past, states-kept, firsts-kept, sized-kept}
+use Rattle.lane.proofs.Going.{Going, past-ready}
+use Rattle.lane.proofs.Pairs.{small, was, below, as-long, recorded, visited-now}
+use Rattle.lane.proofs.Changed.{start-trace, entered-by-hand}
 
 -- the items before nonterminal a of the entries from place k to the end
 unfoldable pub itemsUpTo : Grammar → ℕ → Room → ℕ → ℕ → List ℕ

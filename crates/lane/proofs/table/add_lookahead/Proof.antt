@@ -1,8 +1,8 @@
 -- `lane_table::table::add_lookahead` meets its contract.
 use borrow.Author.Needs.{needs}
-use Rattle.lane_table.proofs.Cells.{cell-entered}
-use Rattle.lane_table.proofs.table.add_lookahead.Statement.{statement}
-use Rattle.lane_table.proofs.table.add_lookahead.Tie as tie
+use Rattle.lane.proofs.Cells.{cell-entered}
+use Rattle.lane.proofs.table.add_lookahead.Statement.{statement}
+use Rattle.lane.proofs.table.add_lookahead.Tie as tie
 
 pub add-lookahead-spec : {M : Type 1} → statement M
 add-lookahead-spec =

@@ -9,33 +9,33 @@ use Rattle.room.specs.Areas.{view}
 use Rattle.room.specs.Bounds.{LongEnough}
 use Rattle.states.proofs.Places.{placed-at}
 use Rattle.state_graph.proofs.Linking.{linked-at}
-use Rattle.lane_table.specs.Traces.{traceOf, leftIn}
-use Rattle.lane_table.proofs.Items.{start-false, not-at-end, past-first}
-use Rattle.lane_table.proofs.Going.{Going, going-visited, going-entered, linked-ready, linked-closed, linked-shifted, linked-falls, going-past, past-closed, past-shifted, past-falls}
-use Rattle.lane_table.proofs.ShiftLoop.{shiftRest, shift-passed, shift-closed, shift-shifted, shift-stops, shift-ends}
-use Rattle.lane_table.proofs.CloseLoop.{closeRest, AtEntry, at-first, entry-low, entry-fits, entry-ready, at-next, at-next-passed, close-passed, close-entered, close-closed, close-shifted, close-stops, close-ends}
+use Rattle.lane.specs.Traces.{traceOf, leftIn}
+use Rattle.lane.proofs.Items.{start-false, not-at-end, past-first}
+use Rattle.lane.proofs.Going.{Going, going-visited, going-entered, linked-ready, linked-closed, linked-shifted, linked-falls, going-past, past-closed, past-shifted, past-falls}
+use Rattle.lane.proofs.ShiftLoop.{shiftRest, shift-passed, shift-closed, shift-shifted, shift-stops, shift-ends}
+use Rattle.lane.proofs.CloseLoop.{closeRest, AtEntry, at-first, entry-low, entry-fits, entry-ready, at-next, at-next-passed, close-passed, close-entered, close-closed, close-shifted, close-stops, close-ends}
 use borrow.Fn.Kinds.{In}
 use borrow.Fn.PlainCycle.{Measures, is, falls, and}
-use Rattle.lane_table.proofs.trace.un_close.Reads as un-close
-use Rattle.lane_table.proofs.trace.un_close.Kinds as un-close-kinds
-use Rattle.lane_table.proofs.trace.+un_close+un_shift.Lts-un_close as un-close-lts
-use Rattle.lane_table.proofs.trace.un_shift.Reads as un-shift
-use Rattle.lane_table.proofs.trace.un_shift.Kinds as un-shift-kinds
-use Rattle.lane_table.proofs.trace.+un_close+un_shift.Lts-un_shift as un-shift-lts
+use Rattle.lane.proofs.trace.un_close.Reads as un-close
+use Rattle.lane.proofs.trace.un_close.Kinds as un-close-kinds
+use Rattle.lane.proofs.trace.+un_close+un_shift.Lts-un_close as un-close-lts
+use Rattle.lane.proofs.trace.un_shift.Reads as un-shift
+use Rattle.lane.proofs.trace.un_shift.Kinds as un-shift-kinds
+use Rattle.lane.proofs.trace.+un_close+un_shift.Lts-un_shift as un-shift-lts
 use Rattle.grammar.proofs.items.at_start.Reads as at-start-reads
 use Rattle.grammar.proofs.items.before_nonterminal.Reads as before-nonterminal-reads
 use Rattle.grammar.proofs.records.symbol.Reads as symbol-reads
 use Rattle.state_graph.proofs.leads.Reads as leads-reads
 use Rattle.marks.proofs.successors.add_successor.Reads as add-successor-reads
-use Rattle.lane_table.proofs.trace.enter_past.Reads as enter-past-reads
-use Rattle.lane_table.proofs.trace.enter_start.Reads as enter-start-reads
+use Rattle.lane.proofs.trace.enter_past.Reads as enter-past-reads
+use Rattle.lane.proofs.trace.enter_start.Reads as enter-start-reads
 use Rattle.marks.proofs.visited.visit.Reads as visit-reads
 use Rattle.marks.proofs.visited.was_visited.Reads as was-visited-reads
 use Rattle.states.proofs.end_entry.Reads as end-entry-reads
 use Rattle.states.proofs.first_entry.Reads as first-entry-reads
 use Rattle.states.proofs.item.Reads as item-reads
-use Rattle.lane_table.proofs.trace.+un_close+un_shift.{statement}
-use Rattle.lane_table.proofs.trace.+un_close+un_shift.Tie.{close}
+use Rattle.lane.proofs.trace.+un_close+un_shift.{statement}
+use Rattle.lane.proofs.trace.+un_close+un_shift.Tie.{close}
 
 abbrev μ-un-close : Measures 2 un-close-kinds.ps ℕ
 μ-un-close κs a = leftIn (a .0 .now) (a .1 .0) (view (a .1 .1 .1 .1 .1 .0 .now))

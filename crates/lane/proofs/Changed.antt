@@ -24,9 +24,9 @@ use Rattle.lookahead.proofs.Slots.{load-stored, load-other}
 use Rattle.context_set.specs.Columns.{columnsAt}
 use Rattle.marks.specs.Marks.{successorsIn, visitedIn, successorAdded, itemVisited}
 use Rattle.marks.proofs.Changes.{successor-added, successors-kept, item-visited, visited-kept}
-use Rattle.lane_table.specs.Changes.{tokensEntered, handEntered, startEntered}
-use Rattle.lane_table.specs.Table.{firstSlotOf, cellSlot, rowIn, tableIn, visitsIn, traceIn}
-use Rattle.lane_table.proofs.Frames.{hand-only, sized-kept}
+use Rattle.lane.specs.Changes.{tokensEntered, handEntered, startEntered}
+use Rattle.lane.specs.Table.{firstSlotOf, cellSlot, rowIn, tableIn, visitsIn, traceIn}
+use Rattle.lane.proofs.Frames.{hand-only, sized-kept}
 
 -- ---- rows and cells
 module _ (r : Room) (count : ℕ) where

@@ -17,8 +17,8 @@ use Rattle.first.specs.Firsts.{firstsIn}
 use Rattle.states.specs.StatesIn.{statesIn, Placed}
 use Rattle.state_graph.specs.Links.{Linked}
 use Rattle.traces.specs.Whole.{pairsLeft, unShifted, unClosed}
-use Rattle.lane_table.specs.declared.Lanes.{Lanes}
-use Rattle.lane_table.specs.Table.{firstCell, traceIn}
+use Rattle.lane.specs.declared.Lanes.{Lanes}
+use Rattle.lane.specs.Table.{firstCell, traceIn}
 
 -- ---- what a trace speaks of, in the room
 abbrev pub firstsFor : List ℕ → Room → Sets

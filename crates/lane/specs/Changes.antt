@@ -10,7 +10,7 @@ use Rattle.rules.specs.Lanes.{tokensPast}
 use Rattle.room.specs.Areas.{Room, putEntered}
 use Rattle.room.specs.Slots.{handSlot}
 use Rattle.lookahead.specs.Sets.{setAt, putSet}
-use Rattle.lane_table.specs.Table.{cellSlot}
+use Rattle.lane.specs.Table.{cellSlot}
 
 -- the tokens are joined into the cell
 abbrev pub tokensEntered : ℕ → ℕ → TokenSet → Room → Room

@@ -3,7 +3,7 @@ ghost use mathlib.Core.Path.{_≡_};
 ghost use Rattle.room.specs.Areas.{view};
 ghost use Rattle.room.specs.Bounds.{LongEnough, IsState, IsColumn, IsSlot};
 ghost use Rattle.lookahead.specs.Sets.{setAt};
-ghost use Rattle.lane_table.specs.Changes.{tokensEntered};
+ghost use Rattle.lane.specs.Changes.{tokensEntered};
 use lookahead::join_into;
 use room::areas::put_entered;
 use room::slots::row_slot;

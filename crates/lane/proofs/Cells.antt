@@ -16,8 +16,8 @@ use Rattle.room.specs.Slots.{handSlot}
 use Rattle.room.proofs.Lengths.{view-lengths}
 use Rattle.lookahead.specs.Sets.{setAt, putSet}
 use Rattle.lookahead.proofs.Slots.{put-there}
-use Rattle.lane_table.specs.Changes.{tokensEntered, handEntered, startEntered, pastEntered}
-use Rattle.lane_table.specs.Table.{cellSlot}
+use Rattle.lane.specs.Changes.{tokensEntered, handEntered, startEntered, pastEntered}
+use Rattle.lane.specs.Table.{cellSlot}
 
 pub cell-entered : (v p q : Room) (s c cell from : ℕ) → p ≡ putEntered s 1 v → cell ≡ cellSlot s c → q ≡ putSet cell (join (setAt p cell) (setAt p from)) p
     → q ≡ tokensEntered s c (setAt v from) v

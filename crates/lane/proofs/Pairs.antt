@@ -17,9 +17,9 @@ use Rattle.marks.specs.Marks.{visitedIn, itemVisited}
 use Rattle.states.specs.StatesIn.{entryIn, firstOf, stateIn, statesIn, Placed}
 use Rattle.states.proofs.States.{states-length}
 use Rattle.traces.specs.Recorded.{AllRecorded}
-use Rattle.lane_table.specs.declared.Lanes.{Lanes}
-use Rattle.lane_table.specs.Traces.{statesOf, traceOf, Traceable}
-use Rattle.lane_table.proofs.Changed.{was-visited, visited-trace, visited-length}
+use Rattle.lane.specs.declared.Lanes.{Lanes}
+use Rattle.lane.specs.Traces.{statesOf, traceOf, Traceable}
+use Rattle.lane.proofs.Changed.{was-visited, visited-trace, visited-length}
 
 -- the items of the states are records of the grammar
 all-recorded : (bytes : List ℕ) (r : Room) (count : ℕ) → Placed (length (records bytes)) count r → AllRecorded (records bytes) (statesIn r count)
