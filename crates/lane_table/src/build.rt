@@ -2,9 +2,9 @@
 ghost use Rattle.room.specs.Areas.{view};
 ghost use Rattle.room.specs.Bounds.{LongEnough};
 ghost use Rattle.lane_table.specs.Actions.{Tracing, LaneTableBuilt};
-use lane::Lanes;
 use super::action::trace_actions;
 use super::clear::clear_rows;
+use lane::Lanes;
 use rules::StateIndex;
 use state_graph::link_states;
 
