@@ -517,7 +517,7 @@ class Shared:
     """Bytes that cases share, each list of them once."""
 
     def __init__(self):
-        self.data, self.places = b"", {}
+        self.data, self.places = bytearray(), {}
 
     def place(self, part):
         if part not in self.places:
