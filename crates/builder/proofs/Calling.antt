@@ -2,15 +2,12 @@
 use Prim.Native.Nat.{ℕ, _*_, _<_, _≤_}
 use mathlib.Core.Path.{_≡_, sym, ap, _∙_}
 use mathlib.Core.Bool.{Bool}
-use mathlib.Core.List.{List, _++_}
+use mathlib.Core.List.{List}
 use native.Mathlib.Omega.{arith}
-use lib.ListN.{length, drop, replicate}
+use lib.ListN.{length}
 use lib.Dec.{ltb}
-use lib.Seq.{drop-at}
 use borrow.Author.Tests.{lt-ltb, le-ltb}
-use Rattle.base.specs.Fill.{zeros}
 use Rattle.base.specs.Pick.{pick}
-use Rattle.base.proofs.Fills.{length-zeros}
 use Rattle.rules.specs.Limits.{limits, workSize}
 use Rattle.rules.specs.Records.{records}
 use Rattle.rules.specs.Grammar.{grammarAnswer, terminalCount, nonterminalCount}
@@ -25,19 +22,12 @@ use Rattle.rules.specs.declared.BuildAnswer.the-variants.{Built, NotBuilt}
 use Rattle.rules.proofs.Rooms.{built-keeps-rest}
 use Rattle.grammar.proofs.Coded.{coded-faultless, terminal-count-below, nonterminal-count-below}
 use Rattle.room.specs.Areas.{view}
-use Rattle.room.proofs.Clearing.{view-cleared, cleared-same}
+use Rattle.room.proofs.Clearing.{cleared-same}
 use Rattle.first.specs.Asked.{Counted}
-use Rattle.first.specs.Firsts.{firstsIn}
-use Rattle.first.proofs.Loads.{blank-firsts}
 use Rattle.collection.specs.Collections.{Collectable}
 use Rattle.collection.proofs.Asked.{coded-collectable}
 use Rattle.table_records.specs.Result.{gaveIn}
 use Rattle.builder.specs.Results.{Gives}
-
--- ---- clearing a cleared room changes nothing
-cleared-twice : (work : List ℕ) → cleared limits (cleared limits work) ≡ cleared limits work
-unfolding cleared limits
-cleared-twice work = ap (λ (l : List ℕ). zeros workSize ++ l) (drop-at (zeros workSize) (drop workSize work) workSize (length-zeros workSize))
 
 -- ---- refusals 1 and 2, and then what the grammar says
 module _ (mode : ℕ) (bytes table work : List ℕ) where
@@ -69,21 +59,17 @@ module _ (mode : ℕ) (bytes table work : List ℕ) where
       unfolding buildCoded notBuilt
       no-grammar a why after is e c = ap (gaveIn (NotBuilt (NoGrammar why)) table) c ∙ sym (by-grammar ∙ ap from3 (sym is ∙ e))
 
-      pub table-built : (a : GrammarAnswer) → a ≡ grammarAnswer limits bytes → a ≡ Coded → (answer : BuildAnswer) (after between left last : List ℕ)
+      pub table-built : (a : GrammarAnswer) → a ≡ grammarAnswer limits bytes → a ≡ Coded → (answer : BuildAnswer) (after left last : List ℕ)
           → Gives (resultOf (records bytes) (constructed limits (records bytes) mode) table) answer after
-          → between ≡ cleared limits work → view left .rest ≡ view between .rest → last ≡ cleared limits left
+          → view left .rest ≡ view work .rest → last ≡ cleared limits left
           → gaveIn answer after last ≡ build limits mode bytes table work
       unfolding buildCoded
-      table-built a is e answer after between left last writes first kept end =
-          let same : last ≡ cleared limits work = end ∙ cleared-same left between kept ∙ ap (cleared limits) first ∙ cleared-twice work in
-          ap (gaveIn answer after) same ∙ writes (cleared limits work) ∙ sym (by-grammar ∙ ap from3 (sym is ∙ e))
+      table-built a is e answer after left last writes kept end =
+          ap (gaveIn answer after) (end ∙ cleared-same left work kept) ∙ writes (cleared limits work) ∙ sym (by-grammar ∙ ap from3 (sym is ∙ e))
 
--- ---- a cleared room and a coded grammar are what the construction asks
+-- ---- a coded grammar is what the construction asks
 pub known-coded : (bytes : List ℕ) (a : GrammarAnswer) → a ≡ grammarAnswer limits bytes → a ≡ Coded → grammarAnswer limits bytes ≡ Coded
 known-coded bytes a is e = sym is ∙ e
-
-pub no-firsts : (bytes work begun : List ℕ) → work ≡ cleared limits begun → firstsIn (records bytes) (view work) ≡ replicate (nonterminalCount (records bytes)) 0
-no-firsts bytes work begun e = rw (e, view-cleared begun) (blank-firsts (records bytes) (drop 8192 begun))
 
 module _ (bytes : List ℕ) (n m : ℕ) (coded : grammarAnswer limits bytes ≡ Coded) (are-n : n ≡ terminalCount (records bytes)) (are-m : m ≡ nonterminalCount (records bytes)) where
   pub numbers-counted : Counted bytes n m
@@ -93,9 +79,6 @@ module _ (bytes : List ℕ) (n m : ℕ) (coded : grammarAnswer limits bytes ≡ 
     few-nonterminals = omega (arith, nonterminal-count-below (records bytes) (coded-faultless bytes coded));
     nonterminals = are-m;
   }
-
-  pub no-firsts-yet : (work : List ℕ) → firstsIn (records bytes) (view work) ≡ replicate (nonterminalCount (records bytes)) 0 → firstsIn (records bytes) (view work) ≡ replicate m 0
-  no-firsts-yet work none = none ∙ ap (λ k. replicate k 0) (sym are-m)
 
   pub collectable : (size : ℕ) (work : List ℕ) → workSize ≤ size → length work ≡ size → Collectable bytes n m work
   collectable size work long same = coded-collectable bytes n m work coded are-n are-m (omega arith)

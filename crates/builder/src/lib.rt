@@ -17,10 +17,9 @@ use table_records::result::write_states;
 use visits::lanes;
 ghost use mathlib.Core.Path.{_≡_};
 ghost use Prim.Native.Nat.{_≤_};
-ghost use lib.ListN.{replicate};
 ghost use Rattle.rules.specs.Limits.{limits};
 ghost use Rattle.rules.specs.Records.{records};
-ghost use Rattle.rules.specs.Grammar.{grammarAnswer, terminalCount, nonterminalCount};
+ghost use Rattle.rules.specs.Grammar.{grammarAnswer, terminalCount};
 ghost use Rattle.rules.specs.First.{firstSets};
 ghost use Rattle.rules.specs.States.{done};
 ghost use Rattle.rules.specs.Merge as Merge;
@@ -72,10 +71,9 @@ fn construct_states(mode: u64, g: &[u8], n: usize, m: usize, work: &mut [u64]) -
     build_canonical_states(g, n, m, work)
 }
 
-// The table of a coded grammar, from a room in which FIRST is empty.
+// The table of a coded grammar.
 fn build_table(mode: u64, g: &[u8], table: &mut [u8], work: &mut [u64]) -> BuildAnswer
     requires { ⌜ (grammarAnswer limits (now g) ≡ Coded) × (mode ≤ 1) × LongEnough (now work) ⌝ }
-    requires { ⌜ firstsIn (records (now g)) (view (now work)) ≡ replicate (nonterminalCount (records (now g))) 0 ⌝ }
     ensures { λ r. ⌜ Gives (resultOf (records (now (g .entry))) (constructed limits (records (now (g .entry))) mode) (now (table .entry))) r (now (table .exit)) ⌝ }
     ensures { λ _. ⌜ view (now (work .exit)) .rest ≡ view (now (work .entry)) .rest ⌝ }
 {
@@ -98,9 +96,11 @@ pub fn build(mode: u64, g: &[u8], table: &mut [u8], work: &mut [u64]) -> BuildAn
     if work.len() < WORK {
         return BuildAnswer::NotBuilt(BuildRefusal::WorkRoom);
     }
-    clear(work);
     match check_grammar(g) {
-        GrammarAnswer::Refused(why) => BuildAnswer::NotBuilt(BuildRefusal::Grammar(why)),
+        GrammarAnswer::Refused(why) => {
+            clear(work);
+            BuildAnswer::NotBuilt(BuildRefusal::Grammar(why))
+        }
         GrammarAnswer::Coded => {
             let answer = build_table(mode, g, table, work);
             clear(work);

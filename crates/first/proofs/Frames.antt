@@ -23,7 +23,8 @@ use Rattle.lookahead.proofs.Slots.{same-words, put-there, put-elsewhere, length
 use Rattle.rules.proofs.Laws.{length-records, nonterminal-counted-at}
 use Rattle.grammar.specs.Asked.{InRange, NoFault, Faultless}
 use Rattle.grammar.proofs.Coded.{nonterminal-count-below, left-nonterminal}
-use Rattle.first.specs.Firsts.{firstsIn, hasFirst, OnlyFirsts, FirstsFound}
+use Rattle.first.specs.Firsts.{firstsIn, hasFirst, OnlyFirsts, FirstsCleared, FirstsFound}
+use Rattle.first.proofs.Clears.{only-cleared}
 use Rattle.first.proofs.Loads.{loads-stored}
 use Rattle.first.proofs.Growth.{add-first-is}
 use Rattle.first.proofs.Collects.{firsts-kept}
@@ -98,13 +99,13 @@ module _ (bytes : List ℕ) (n i a slot own : ℕ) (w : List ℕ) (p : Room) (cl
   unfolding hasFirst
   first-new r e = rw (collected-there, own-there) at e
 
--- ---- the end: the slot at hand is cleared
-pub firsts-found : (g : Grammar) (v q : Room) (w : List ℕ) (hand size : ℕ) → NoFault g → workSize ≤ size → length w ≡ size → OnlyFirsts g v (view w) → firstsIn g (view w) ≡ firstSets g
-    → hand ≡ handSlot → q ≡ putSet hand 0 (view w) → FirstsFound g v q
-firsts-found g v q w hand size clean fits same only found e put =
+-- ---- from the slots cleared at the beginning to the end, where the slot at hand is cleared
+pub firsts-found : (g : Grammar) (m : ℕ) (v u q : Room) (w : List ℕ) (hand before size : ℕ) → NoFault g → workSize ≤ before → size ≡ before → length w ≡ size → m ≡ nonterminalCount g → FirstsCleared m v u
+    → OnlyFirsts g u (view w) → firstsIn g (view w) ≡ firstSets g → hand ≡ handSlot → q ≡ putSet hand 0 (view w) → FirstsFound g v q
+firsts-found g m v u q w hand before size clean fits first same counted begun only found e put =
     let l = view-lengths w (omega arith) .sets-length in
     record {
-      only = only-both g v (view w) q only (only-put g (view w) q hand 0 (inr e) put);
+      only = only-both g v u q (only-cleared g m v u counted begun) (only-both g u (view w) q only (only-put g (view w) q hand 0 (inr e) put));
       found = firsts-kept (view w) q hand 0 put g clean (omega arith) ∙ found;
       cleared = ap (setAt q) (sym e) ∙ put-there (view w) q hand 0 put (omega arith);
     }

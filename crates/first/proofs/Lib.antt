@@ -1,4 +1,5 @@
 pub mod Begins
+pub mod Clears
 pub mod Collects
 pub mod Frames
 pub mod Growth

@@ -1,5 +1,5 @@
 -- FIRST in the room: the set of nonterminal a lies in its slot.
-use Prim.Native.Nat.{ℕ, _≤_}
+use Prim.Native.Nat.{ℕ, _≤_, _<_}
 use mathlib.Core.Path.{_≡_}
 use mathlib.Core.Bool.{Bool, false}
 use mathlib.Core.List.{[]}
@@ -37,7 +37,14 @@ pub record OnlyFirsts (g : Grammar) (v q : Room) : Type 0 where
   pub words : length (q .sets) ≡ length (v .sets)
   pub slots : (slot : ℕ) → nonterminalCount g ≤ slot → (slot ≡ handSlot → ⊥) → setAt q slot ≡ setAt v slot
 
--- and these are FIRST of the nonterminals and the empty set
+-- q is v but for the sets of the first m nonterminals, and these are empty
+pub record FirstsCleared (m : ℕ) (v q : Room) : Type 0 where
+  pub others : withSets [] q ≡ withSets [] v
+  pub words : length (q .sets) ≡ length (v .sets)
+  pub slots : (slot : ℕ) → m ≤ slot → setAt q slot ≡ setAt v slot
+  pub none : (slot : ℕ) → slot < m → setAt q slot ≡ 0
+
+-- q is v but for the sets of the grammar's nonterminals and the set at hand, and these are FIRST of the nonterminals and the empty set
 pub record FirstsFound (g : Grammar) (v q : Room) : Type 0 where
   pub only : OnlyFirsts g v q
   pub found : firstsIn g q ≡ firstSets g

@@ -1,8 +1,10 @@
 // FIRST of every nonterminal, collected in rounds over the productions: first/mod.rs, FirstSets::new.
 ghost use mathlib.Core.Path.{_≡_};
 ghost use mathlib.Core.Bool.{true};
+ghost use Prim.Native.Nat.{_≤_};
 ghost use lib.ListN.{replicate};
 ghost use Rattle.base.specs.Pick.{pick};
+ghost use Rattle.rules.specs.Limits.{maxNonterminals};
 ghost use Rattle.rules.specs.Records.{records};
 ghost use Rattle.rules.specs.Grammar.{atStart};
 ghost use Rattle.rules.specs.First.{firstSets};
@@ -10,7 +12,7 @@ ghost use Rattle.grammar.specs.Asked.{InRange, Faultless};
 ghost use Rattle.room.specs.Areas.{view};
 ghost use Rattle.room.specs.Bounds.{LongEnough, FewTerminals};
 ghost use Rattle.first.specs.Asked.{Counted};
-ghost use Rattle.first.specs.Firsts.{OnlyFirsts, FirstsFound};
+ghost use Rattle.first.specs.Firsts.{OnlyFirsts, FirstsCleared, FirstsFound};
 ghost use Rattle.first.specs.Rooms.{firstsOf, firstAdded, addsFirst, firstAddedAt, addsFirstAt, roundMade, roundAdds};
 use super::suffix::first0;
 use grammar::items::at_start;
@@ -90,13 +92,24 @@ fn rounds(g: &[u8], n: usize, m: usize, work: &mut [u64])
     }
 }
 
-// FIRST of every nonterminal, into its slot, which was empty. The set at hand is left empty.
+// Nothing begins the first m nonterminals: their slots are empty.
+fn clear_firsts(m: usize, work: &mut [u64])
+    requires { ⌜ LongEnough (now work) × (m ≤ maxNonterminals) ⌝ }
+    ensures { λ _. ⌜ FirstsCleared m (view (now (work .entry))) (view (now (work .exit))) ⌝ }
+{
+    for a in 0..m {
+        let own = first_slot(a);
+        clear_set(work, own);
+    }
+}
+
+// FIRST of every nonterminal, into its slot. The set at hand is left empty.
 // n and m are the grammar's numbers of terminals and nonterminals. first/mod.rs: FirstSets::new
 pub fn first_sets(g: &[u8], n: usize, m: usize, work: &mut [u64])
-    requires { ⌜ Faultless (now g) × Counted (now g) n m ⌝ }
-    requires { ⌜ LongEnough (now work) × (firstsOf (now g) (now work) ≡ replicate m 0) ⌝ }
+    requires { ⌜ Faultless (now g) × Counted (now g) n m × LongEnough (now work) ⌝ }
     ensures { λ _. ⌜ FirstsFound (records (now (g .entry))) (view (now (work .entry))) (view (now (work .exit))) ⌝ }
 {
+    clear_firsts(m, work);
     rounds(g, n, m, work);
     let hand = hand_slot();
     clear_set(work, hand);

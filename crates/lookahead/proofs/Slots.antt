@@ -1,10 +1,9 @@
 -- The set in a slot after a set was put into a slot. Callers go by these laws, not by how a set is kept.
-use Prim.Native.Nat.{ℕ, zero, suc, _<_}
-use mathlib.Core.Path.{_≡_, refl, ap, _∙_}
+use Prim.Native.Nat.{ℕ, _<_}
+use mathlib.Core.Path.{_≡_, ap, _∙_}
 use mathlib.Core.List.{List}
 use lib.ListN.{length, length-set}
 use lib.Seq.{ext-getD, getD-set-same, getD-set-other, set-getD, set-set}
-use Rattle.base.specs.Fill.{zeros}
 use Rattle.room.specs.Areas.{Room, withSets}
 use Rattle.lookahead.specs.Sets.{loadSet, storeSet, setAt, putSet}
 
@@ -28,13 +27,6 @@ module _ (words : List ℕ) (slot s : ℕ) where
 pub store-loaded : (words : List ℕ) (slot : ℕ) → storeSet slot (loadSet words slot) words ≡ words
 unfolding loadSet storeSet
 store-loaded words slot = set-getD words slot 0
-
--- words that are all zero hold empty sets
-pub load-none : (n slot : ℕ) → loadSet (zeros n) slot ≡ 0
-unfolding loadSet zeros
-load-none zero slot = refl
-load-none (suc n) zero = refl
-load-none (suc n) (suc slot) = load-none n slot
 
 -- words that hold the same sets are equal
 pub same-words : (a b : List ℕ) → length a ≡ length b → ((slot : ℕ) → loadSet a slot ≡ loadSet b slot) → a ≡ b

@@ -3,10 +3,9 @@
 -- The token sets come last, so that no other area moves if a set takes more words. An area with two uses is never in both at once, and each
 -- use begins by filling it.
 use Prim.Native.Nat.{ℕ}
-use mathlib.Core.List.{List, _++_}
+use mathlib.Core.List.{List}
 use lib.ListN.{drop, set}
 use Rattle.base.specs.Part.{part}
-use Rattle.base.specs.Fill.{zeros}
 
 pub record Room : Type 0 where
   -- item and next state of each entry
@@ -111,19 +110,3 @@ putAction i v r = withActions (set (r .actions) i v) r
 
 abbrev pub putSetWord : ℕ → ℕ → Room → Room
 putSetWord i v r = withSets (set (r .sets) i v) r
-
--- ---- a room whose first 8,192 numbers are zero, and the numbers past them
-unfoldable pub blank : List ℕ → Room
-blank past = record {
-  entries = zeros 2048;
-  firstEntries = zeros 129;
-  visited = zeros 1024;
-  entered = zeros 128;
-  successors = zeros 256;
-  origins = zeros 128;
-  heads = zeros 128;
-  walked = zeros 2;
-  actions = zeros 16;
-  sets = zeros 4225;
-  rest = zeros 108 ++ past;
-}

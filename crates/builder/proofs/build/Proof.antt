@@ -1,6 +1,6 @@
 -- `builder::build` meets its contract.
 use borrow.Author.Needs.{needs}
-use Rattle.builder.proofs.Calling.{bad-mode, short-room, known-coded, no-firsts, no-grammar, table-built}
+use Rattle.builder.proofs.Calling.{bad-mode, short-room, known-coded, no-grammar, table-built}
 use Rattle.builder.proofs.build.Statement.{statement}
 use Rattle.builder.proofs.build.Tie as tie
 
@@ -11,10 +11,10 @@ build-spec =
     (λ c. search (needs, bad-mode))
     (λ c. search (needs, short-room))
     (λ c κs. search needs)
+    (λ c. search needs)
     (λ c κs. search needs)
     (λ c. search needs)
-    (λ c. search needs)
-    (λ c κs. ((search (needs, known-coded), search needs, search needs), search (needs, no-firsts)))
+    (λ c κs. search (needs, known-coded))
     (λ c κs. search needs)
     (λ c. search needs)
     (λ c. search (needs, no-grammar))

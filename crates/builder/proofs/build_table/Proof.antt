@@ -3,7 +3,7 @@ use borrow.Author.Needs.{needs}
 use native.Mathlib.Omega.{arith}
 use Rattle.grammar.proofs.Coded.{coded-faultless}
 use Rattle.builder.proofs.Building.{none-written, states-placed, states-written, rest-kept}
-use Rattle.builder.proofs.Calling.{numbers-counted, no-firsts-yet, collectable}
+use Rattle.builder.proofs.Calling.{numbers-counted, collectable}
 use Rattle.builder.proofs.build_table.Statement.{statement}
 use Rattle.builder.proofs.build_table.Tie as tie
 
@@ -20,7 +20,7 @@ build-table-spec =
     (tie.spec
     (λ c κs. search needs)
     (λ c κs. search needs)
-    (λ c κs. search (needs, coded-faultless, numbers-counted, no-firsts-yet))
+    (λ c κs. search (needs, coded-faultless, numbers-counted))
     (λ c κs. search (needs, collectable))
     (λ c. search needs)
     (λ c. search needs)
