@@ -1,0 +1,4 @@
+pub mod Calling
+pub mod Filling
+pub mod Unique
+pub mod Zero
