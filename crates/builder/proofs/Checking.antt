@@ -22,7 +22,7 @@ use Rattle.first.specs.Firsts.{firstsIn}
 use Rattle.states.specs.StatesIn.{entryIn, statesIn, Placed}
 use Rattle.states.proofs.Places.{end-within, placed-same, states-same}
 use Rattle.states.proofs.States.{states-length, entry-same}
-use Rattle.least_sets.specs.Least.{OnlyLeast}
+use Rattle.least_steps.specs.Least.{OnlyLeast}
 use Rattle.least_sets.specs.Steps.{Ready}
 use Rattle.lr.specs.declared.Built.{Built}
 use Rattle.lr.specs.declared.Built.the-variants.{States, Refused}

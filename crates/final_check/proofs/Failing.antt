@@ -16,9 +16,9 @@ use Rattle.room.specs.Areas.{Room}
 use Rattle.lookahead.specs.Sets.{lacksToken}
 use Rattle.states.specs.StatesIn.{stateIn, statesIn}
 use Rattle.states.proofs.States.{states-length, state-at}
-use Rattle.least_sets.specs.Least.{leastState, leastIn, OnlyLeast}
+use Rattle.least_steps.specs.Least.{leastState, leastIn, OnlyLeast}
+use Rattle.least_steps.proofs.Entries.{least-at}
 use Rattle.least_sets.specs.Steps.{Ready}
-use Rattle.least_sets.proofs.Entries.{least-at}
 use Rattle.least_sets.proofs.Frames.{only-states}
 use Rattle.final_check.specs.Fails.{lacksIn}
 

@@ -20,9 +20,9 @@ use Rattle.lookahead.specs.Sets.{lacksSome, lacksBelow}
 use Rattle.states.specs.StatesIn.{entryIn, firstOf, stateIn, PlacedRun, PlacedAt}
 use Rattle.states.proofs.States.{set-of}
 use Rattle.states.proofs.Places.{run-read}
-use Rattle.least_sets.specs.Least.{leastSlot, leastEntry, leastState}
+use Rattle.least_steps.specs.Least.{leastSlot, leastEntry, leastState}
+use Rattle.least_steps.proofs.Entries.{least-set}
 use Rattle.least_sets.specs.Steps.{Ready}
-use Rattle.least_sets.proofs.Entries.{least-set}
 use Rattle.final_check.specs.Fails.{lacksIn}
 
 -- ---- the entry at place k, whose item is i

@@ -3,7 +3,7 @@ use Prim.Native.Nat.{ℕ}
 use mathlib.Core.Path.{_≡_}
 use mathlib.Core.List.{List}
 use Rattle.base.proofs.Unique.{one-answer}
-use Rattle.least_sets.specs.Least.{leastOf}
+use Rattle.least_steps.specs.Least.{leastOf}
 use Rattle.least_sets.specs.Rounds.{foundLeast}
 use Rattle.final_check.specs.Fails.{failing}
 

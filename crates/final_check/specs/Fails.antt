@@ -15,7 +15,7 @@ use Rattle.room.specs.Areas.{Room, view}
 use Rattle.room.specs.Slots.{entrySlot}
 use Rattle.lookahead.specs.Sets.{lacksBelow}
 use Rattle.states.specs.StatesIn.{entryIn, stateIn, statesIn}
-use Rattle.least_sets.specs.Least.{leastSlot, leastEntry, leastOf}
+use Rattle.least_steps.specs.Least.{leastSlot, leastEntry, leastOf}
 
 -- ---- what is asked: the item of the entry at place k is one of the records
 abbrev pub Recorded : List ℕ → List ℕ → ℕ → Type 0

@@ -24,11 +24,12 @@ use Rattle.context_set.specs.Columns.{Columned}
 use Rattle.states.specs.StatesIn.{entryIn, firstOf, stateIn, statesIn, Placed}
 use Rattle.states.proofs.States.{states-length, first-same}
 use Rattle.states.proofs.Places.{firsts-ascend, end-within, item-count}
-use Rattle.least_sets.specs.Least.{leastSlot, leastEntry, leastState, leastIn, OnlyLeast, LeastCleared}
-use Rattle.least_sets.specs.Giving.{isGiven}
+use Rattle.least_steps.specs.Least.{leastSlot, leastEntry, leastState, leastIn, OnlyLeast, LeastCleared}
+use Rattle.least_steps.specs.Giving.{isGiven}
+use Rattle.least_steps.proofs.Entries.{map-each}
+use Rattle.least_steps.proofs.Frames.{hand-least, only-hand, only-both}
 use Rattle.least_sets.specs.Steps.{Ready}
-use Rattle.least_sets.proofs.Entries.{map-each}
-use Rattle.least_sets.proofs.Frames.{ready-only, hand-least, only-hand, only-both}
+use Rattle.least_sets.proofs.Frames.{ready-only}
 
 -- ---- the slots from the first least set on are cleared, as many as there are entries
 module _ (count first entries : ℕ) (v q : Room) (from : first ≡ leastSlot 0) (is : entries ≡ firstOf v count) (cleared : Columned first entries (replicate entries 0) v q) where

@@ -13,9 +13,9 @@ use Rattle.rules.specs.First.{Sets}
 use Rattle.rules.specs.FinalCheck.{settleEntry, settleState, leastSettled, leastRound}
 use Rattle.room.specs.Areas.{Room}
 use Rattle.states.specs.StatesIn.{firstOf}
-use Rattle.least_sets.specs.Least.{leastEntry, leastState, leastIn}
+use Rattle.least_steps.specs.Least.{leastEntry, leastState, leastIn}
+use Rattle.least_steps.proofs.Entries.{least-at}
 use Rattle.least_sets.specs.Steps.{settledAt, stateSettled}
-use Rattle.least_sets.proofs.Entries.{least-at}
 use Rattle.least_sets.proofs.Rests.{state-fold, state-lacking, round-fold, round-lacking}
 
 module _ (g : Grammar) (sets : Sets) (r : Room) (count : ℕ) where

@@ -17,9 +17,9 @@ use Rattle.rules.specs.FinalCheck.{leastSettled, leastRound}
 use Rattle.room.specs.Areas.{Room}
 use Rattle.states.specs.StatesIn.{firstOf}
 use Rattle.states.proofs.Places.{end-within}
-use Rattle.least_sets.specs.Least.{leastIn}
+use Rattle.least_steps.specs.Least.{leastIn}
+use Rattle.least_steps.proofs.Frames.{few-terminals}
 use Rattle.least_sets.specs.Steps.{Ready}
-use Rattle.least_sets.proofs.Frames.{few-terminals}
 use Rattle.least_sets.proofs.Rests.{round-rests}
 
 -- ---- the rounds, turn of them made

@@ -1,4 +1,2 @@
-pub mod Giving
-pub mod Least
 pub mod Rounds
 pub mod Steps

@@ -8,7 +8,7 @@ use Rattle.rules.specs.States.{State}
 use Rattle.rules.specs.FinalCheck.{leastSettled, leastRound, leastBegun, leastSets}
 use Rattle.room.specs.Areas.{view}
 use Rattle.states.specs.StatesIn.{firstOf, statesIn}
-use Rattle.least_sets.specs.Least.{leastOf}
+use Rattle.least_steps.specs.Least.{leastOf}
 
 -- Eof for the start item of state 0, nothing for any other entry
 abbrev pub begunLeast : List ℕ → ℕ → List ℕ → List State

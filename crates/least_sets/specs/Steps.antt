@@ -4,21 +4,16 @@ use mathlib.Core.Path.{_≡_}
 use mathlib.Core.Bool.{Bool}
 use mathlib.Core.List.{List, []}
 use lib.ListN.{length, getD}
-use lib.Dec.{eqb}
 use Rattle.base.specs.Lists.{eachOf}
 use Rattle.rules.specs.Records.{Grammar, records}
-use Rattle.rules.specs.Tokens.{TokenSet}
-use Rattle.rules.specs.Grammar.{symbolsBehind}
-use Rattle.rules.specs.First.{Sets, first1, firstSets}
-use Rattle.rules.specs.States.{Entry, State}
-use Rattle.rules.specs.FinalCheck.{haveAt, giveAt, isBehindDot, closing, entryAt, entryMoved, entryClosed, entrySettled, moveEntry, closeEntry, settleEntry, settleState, leastSettled, leastRound}
+use Rattle.rules.specs.First.{Sets, firstSets}
+use Rattle.rules.specs.States.{State}
+use Rattle.rules.specs.FinalCheck.{entryAt, entryMoved, entryClosed, entrySettled, moveEntry, closeEntry, settleEntry, settleState, leastSettled, leastRound}
 use Rattle.grammar.specs.Asked.{Faultless}
-use Rattle.room.specs.Areas.{Room, view}
-use Rattle.room.specs.Slots.{handSlot}
-use Rattle.lookahead.specs.Sets.{setAt, putSet}
+use Rattle.room.specs.Areas.{Room}
 use Rattle.first.specs.Firsts.{firstsIn}
-use Rattle.states.specs.StatesIn.{entryIn, firstOf, Placed}
-use Rattle.least_sets.specs.Least.{leastSlot, leastEntry, leastOf}
+use Rattle.states.specs.StatesIn.{firstOf, Placed}
+use Rattle.least_steps.specs.Least.{leastOf}
 
 -- ---- what is asked: the states and FIRST are in the room
 pub record Ready (bytes : List ℕ) (count : ℕ) (r : Room) : Type 0 where
@@ -29,27 +24,6 @@ pub record Ready (bytes : List ℕ) (count : ℕ) (r : Room) : Type 0 where
 -- state s has an entry k
 abbrev pub HasEntry : ℕ → Room → ℕ → ℕ → Type 0
 HasEntry count r s k = (s < count) × (firstOf r s + k < firstOf r (s + 1))
-
--- ---- the room with what the entry at a place hands on to the items behind its dot in the set at hand
-abbrev pub closingPut : List ℕ → ℕ → ℕ → Room → Room
-closingPut bytes n place r =
-    putSet handSlot (first1 n (firstsIn (records bytes) r) (symbolsBehind (records bytes) (entryIn r place .item + 1)) (setAt r (leastSlot place))) r
-
--- ---- the entry at a place has handed on its set to its moved dot, and to the items behind its dot; and whether they had it
-abbrev pub movedFrom : ℕ → ℕ → List ℕ → List State
-movedFrom place count work = let e : Entry = leastEntry (view work) place in giveAt (e .next) (eqb (e .item + 1)) (e .set) (leastOf count work)
-
-abbrev pub hasMoved : ℕ → ℕ → List ℕ → Bool
-hasMoved place count work = let e : Entry = leastEntry (view work) place in haveAt (leastOf count work) (e .next) (eqb (e .item + 1)) (e .set)
-
-abbrev pub closingOf : List ℕ → ℕ → List ℕ → TokenSet
-closingOf bytes place work = closing (records bytes) (firstsIn (records bytes) (view work)) (leastEntry (view work) place)
-
-abbrev pub closedFrom : List ℕ → ℕ → ℕ → ℕ → List ℕ → List State
-closedFrom bytes s place count work = giveAt s (isBehindDot (records bytes) (leastEntry (view work) place .item)) (closingOf bytes place work) (leastOf count work)
-
-abbrev pub hasClosing : List ℕ → ℕ → ℕ → ℕ → List ℕ → Bool
-hasClosing bytes s place count work = haveAt (leastOf count work) s (isBehindDot (records bytes) (leastEntry (view work) place .item)) (closingOf bytes place work)
 
 -- ---- entry k of state s has handed on its set to its moved dot, to the items behind its dot, and to both
 abbrev pub movedLeast : List ℕ → ℕ → ℕ → ℕ → List ℕ → List State

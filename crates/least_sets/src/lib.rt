@@ -1,4 +1,3 @@
-// The least sets of the final check: over the states reachable from 0, in the slots that the lane table had.
+// The least sets of the final check: over the states reachable from 0, by rounds of steps.
 pub mod begin;
-pub mod give;
 pub mod rounds;

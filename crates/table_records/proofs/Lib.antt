@@ -3,5 +3,4 @@ pub mod Results
 pub mod Rooms
 pub mod States
 pub mod Targets
-pub mod Turns
 pub mod Writes

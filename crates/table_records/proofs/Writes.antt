@@ -8,10 +8,10 @@ use borrow.Rule.Slice.PartMut.{putMid, midOf}
 use Rattle.base.specs.Lists.{concat}
 use Rattle.rules.specs.Table.{TableRecord, recordBytes, tableBytes}
 use Rattle.rules.specs.Rooms.{overwritten}
-use Rattle.table_records.specs.Records.{inTurn}
+use Rattle.table_counts.specs.Records.{inTurn}
+use Rattle.table_counts.proofs.Turns.{turn-none, turn-more}
 use Rattle.table_records.specs.Written.{writtenAt, Fits, Wrote}
 use Rattle.table_records.proofs.Rooms.{bytes-length, bytes-append, bytes-one, written-none, written-length, written-then, written-behind}
-use Rattle.table_records.proofs.Turns.{turn-none, turn-more}
 
 -- rs are left of what was to be written from the place `from` on into the room
 pub record Left (rs : List TableRecord) (at : ℕ) (table : List ℕ) (all : List TableRecord) (from : ℕ) (room : List ℕ) : Type 0 where

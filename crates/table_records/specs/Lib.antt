@@ -1,5 +1,2 @@
-pub mod Asked
-pub mod Records
 pub mod Result
-pub mod Targets
 pub mod Written

@@ -8,11 +8,11 @@ ghost use Rattle.room.specs.Areas.{view};
 ghost use Rattle.room.specs.Bounds.{LongEnough};
 ghost use Rattle.states.specs.StatesIn.{Placed};
 ghost use Rattle.table_records.specs.Result.{TableGiven};
-use super::count::count_records;
 use super::write::write_table;
 use grammar::records::RECORD;
 use rules::BuildAnswer;
 use rules::BuildRefusal;
+use table_counts::count::count_records;
 
 // The records of all states written into the table room; if they do not fit, 14 with the records wanted, and no byte is touched.
 pub fn write_states(

@@ -14,23 +14,25 @@ ghost use Rattle.room.specs.Areas.{view};
 ghost use Rattle.room.specs.Bounds.{LongEnough, FewTerminals};
 ghost use Rattle.lookahead.specs.Sets.{IsToken};
 ghost use Rattle.states.specs.StatesIn.{statesIn, Placed};
-ghost use Rattle.table_records.specs.Asked.{Readable, ReadableEntry};
-ghost use Rattle.table_records.specs.Records.{IsKind, overSymbol, onEntry, onToken, ofState, inTurn};
-ghost use Rattle.table_records.specs.Targets.{IsSymbol, toTarget};
+ghost use Rattle.table_counts.specs.Asked.{Readable, ReadableEntry};
+ghost use Rattle.table_counts.specs.Records.{IsKind, kindOver, overSymbol, onEntry, onToken, ofState, inTurn};
+ghost use Rattle.table_counts.specs.Targets.{IsSymbol, toTarget};
 ghost use Rattle.table_records.specs.Written.{Fits, Wrote};
-use super::transitions::SYMBOLS;
-use super::transitions::gather;
-use super::transitions::kind_over;
 use grammar::items::at_end;
 use grammar::records::RECORD;
+use grammar::records::TERMINAL;
 use grammar::records::production;
 use lookahead::contains;
+use record::records::GOTO;
 use record::records::REDUCE;
+use record::records::SHIFT;
 use room::slots::entry_slot;
 use rules::StateIndex;
 use states::end_entry;
 use states::first_entry;
 use states::item;
+use table_counts::transitions::SYMBOLS;
+use table_counts::transitions::gather;
 
 // The eight bytes of a record, at the front of what is lent: bytes 0-1 state, 2 kind, 3 zero, 4-5 symbol, 6-7 target.
 fn write_record(table: &mut [u8], state: StateIndex, kind: usize, symbol: usize, target: usize)
@@ -61,6 +63,16 @@ fn put_record(
 {
     write_record(&mut table[at..], state, kind, symbol, target);
     at + RECORD
+}
+
+// The kind of a record over a symbol: over a terminal it is a shift, over a nonterminal a goto.
+fn kind_over(kind: usize) -> usize
+    ensures { λ r. ⌜ (r ≡ kindOver kind) × IsKind r ⌝ }
+{
+    if kind == TERMINAL {
+        return SHIFT;
+    }
+    GOTO
 }
 
 // The record of a state over symbol x, if the symbol leads somewhere.

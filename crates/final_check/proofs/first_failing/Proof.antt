@@ -12,7 +12,7 @@ use Rattle.room.specs.Areas.{view}
 use Rattle.room.specs.Slots.{entrySlot}
 use Rattle.lookahead.specs.Sets.{lacksToken}
 use Rattle.states.specs.StatesIn.{stateIn, statesIn, PlacedRun}
-use Rattle.least_sets.specs.Least.{leastSlot, leastState, leastOf}
+use Rattle.least_steps.specs.Least.{leastSlot, leastState, leastOf}
 use Rattle.least_sets.proofs.Frames.{few-states}
 use Rattle.final_check.specs.Fails.{lacksIn, lowestFailing}
 use Rattle.final_check.proofs.Lacking.{entries-placed, run-area, run-recorded, state-begins, tokens-begin}

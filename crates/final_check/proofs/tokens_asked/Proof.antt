@@ -1,6 +1,6 @@
 -- `final_check::tokens_asked` meets its contract.
 use borrow.Author.Needs.{needs}
-use Rattle.least_sets.proofs.Moves.{recorded-fits}
+use Rattle.least_steps.proofs.Moves.{recorded-fits}
 use Rattle.final_check.proofs.Lacking.{none-asked, all-asked}
 use Rattle.final_check.proofs.tokens_asked.Statement.{statement}
 use Rattle.final_check.proofs.tokens_asked.Tie as tie

@@ -1,7 +1,7 @@
 -- `least_sets::begin::begin_least` meets its contract.
 use borrow.Author.Needs.{needs}
 use Rattle.room.proofs.Lengths.{view-lengths}
-use Rattle.least_sets.proofs.Frames.{few-terminals, only-both}
+use Rattle.least_steps.proofs.Frames.{few-terminals, only-both}
 use Rattle.least_sets.proofs.Begins.{entries-fit, eof-only, eof-placed, begun}
 use Rattle.least_sets.proofs.begin.begin_least.Statement.{statement}
 use Rattle.least_sets.proofs.begin.begin_least.Tie as tie

@@ -1,6 +1,7 @@
 -- `least_sets::begin::least_sets` meets its contract.
 use borrow.Author.Needs.{needs}
-use Rattle.least_sets.proofs.Frames.{ready-only, only-both}
+use Rattle.least_steps.proofs.Frames.{only-both}
+use Rattle.least_sets.proofs.Frames.{ready-only}
 use Rattle.least_sets.proofs.Begins.{rounds-found}
 use Rattle.least_sets.proofs.begin.least_sets.Statement.{statement}
 use Rattle.least_sets.proofs.begin.least_sets.Tie as tie

@@ -1,7 +1,9 @@
 -- `least_sets::rounds::close_entry` meets its contract.
 use borrow.Author.Needs.{needs}
-use Rattle.least_sets.proofs.Frames.{only-none, few-states, place-area, at-area, at-recorded}
-use Rattle.least_sets.proofs.Moves.{unclosed, unclosed-says, closed, closed-says, closes-here}
+use Rattle.least_steps.proofs.Frames.{only-none}
+use Rattle.least_steps.proofs.Moves.{closes-here}
+use Rattle.least_sets.proofs.Frames.{few-states, place-area, at-area, at-recorded}
+use Rattle.least_sets.proofs.Moves.{unclosed, unclosed-says, closed, closed-says}
 use Rattle.least_sets.proofs.rounds.close_entry.Statement.{statement}
 use Rattle.least_sets.proofs.rounds.close_entry.Tie as tie
 

@@ -1,6 +1,7 @@
 -- `least_sets::rounds::move_entry` meets its contract.
 use borrow.Author.Needs.{needs}
-use Rattle.least_sets.proofs.Frames.{only-none, few-states, place-area, at-area, at-recorded}
+use Rattle.least_steps.proofs.Frames.{only-none}
+use Rattle.least_sets.proofs.Frames.{few-states, place-area, at-area, at-recorded}
 use Rattle.least_sets.proofs.Moves.{unmoved, unmoved-says, moved, moved-says}
 use Rattle.least_sets.proofs.rounds.move_entry.Statement.{statement}
 use Rattle.least_sets.proofs.rounds.move_entry.Tie as tie

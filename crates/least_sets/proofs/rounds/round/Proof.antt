@@ -12,9 +12,10 @@ use Rattle.rules.specs.Records.{records}
 use Rattle.rules.specs.First.{firstSets}
 use Rattle.rules.specs.FinalCheck.{settleState}
 use Rattle.room.specs.Areas.{view}
-use Rattle.least_sets.specs.Least.{leastOf, OnlyLeast}
+use Rattle.least_steps.specs.Least.{leastOf, OnlyLeast}
+use Rattle.least_steps.proofs.Frames.{only-none, only-both}
 use Rattle.least_sets.specs.Steps.{stateSettled, roundLeast, isRoundSettled}
-use Rattle.least_sets.proofs.Frames.{only-none, only-both, ready-only}
+use Rattle.least_sets.proofs.Frames.{ready-only}
 use Rattle.least_sets.proofs.Rests.{state-turn, lacking-end}
 use Rattle.least_sets.proofs.Loops.{round-begins, round-lacks}
 use Rattle.least_sets.proofs.rounds.round.Statement.{statement}

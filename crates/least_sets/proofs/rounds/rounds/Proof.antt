@@ -11,10 +11,11 @@ use Rattle.rules.specs.Records.{records}
 use Rattle.rules.specs.First.{firstSets}
 use Rattle.rules.specs.FinalCheck.{leastSettled, leastRound}
 use Rattle.room.specs.Areas.{view}
-use Rattle.least_sets.specs.Least.{leastOf, OnlyLeast}
+use Rattle.least_steps.specs.Least.{leastOf, OnlyLeast}
+use Rattle.least_steps.proofs.Frames.{only-none, only-both, few-terminals}
 use Rattle.least_sets.specs.Rounds.{roundsLeast}
 use Rattle.least_sets.proofs.Turns.{rounds-begin, rounds-fit, rounds-turn, rounds-stop}
-use Rattle.least_sets.proofs.Frames.{only-none, only-both, ready-only, few-terminals}
+use Rattle.least_sets.proofs.Frames.{ready-only}
 use Rattle.least_sets.proofs.rounds.rounds.Statement.{statement}
 use Rattle.least_sets.proofs.rounds.rounds.Tie as tie
 

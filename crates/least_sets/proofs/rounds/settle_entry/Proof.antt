@@ -1,6 +1,7 @@
 -- `least_sets::rounds::settle_entry` meets its contract.
 use borrow.Author.Needs.{needs}
-use Rattle.least_sets.proofs.Frames.{only-both, ready-only, entry-only}
+use Rattle.least_steps.proofs.Frames.{only-both}
+use Rattle.least_sets.proofs.Frames.{ready-only, entry-only}
 use Rattle.least_sets.proofs.Rests.{settle-both, settle-says}
 use Rattle.least_sets.proofs.rounds.settle_entry.Statement.{statement}
 use Rattle.least_sets.proofs.rounds.settle_entry.Tie as tie

@@ -13,9 +13,10 @@ use Rattle.rules.specs.First.{firstSets}
 use Rattle.rules.specs.FinalCheck.{settleEntry}
 use Rattle.room.specs.Areas.{view}
 use Rattle.states.specs.StatesIn.{firstOf}
-use Rattle.least_sets.specs.Least.{leastOf, OnlyLeast}
+use Rattle.least_steps.specs.Least.{leastOf, OnlyLeast}
+use Rattle.least_steps.proofs.Frames.{only-none, only-both}
 use Rattle.least_sets.specs.Steps.{settledAt, stateLeast, isStateSettled}
-use Rattle.least_sets.proofs.Frames.{only-none, only-both, ready-only, few-states, entry-left, size-fits}
+use Rattle.least_sets.proofs.Frames.{ready-only, few-states, entry-left, size-fits}
 use Rattle.least_sets.proofs.Rests.{entry-turn, lacking-end}
 use Rattle.least_sets.proofs.Loops.{state-begins, state-lacks}
 use Rattle.least_sets.proofs.rounds.settle_state.Statement.{statement}

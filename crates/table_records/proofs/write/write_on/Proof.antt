@@ -1,9 +1,10 @@
 -- `table_records::write::write_on` meets its contract. The loop's invariant: what is left to write gives the room and the place. The measure is what is left of the entries.
 use Prim.Native.Nat.{_≤_, _-_}
 use borrow.Author.Needs.{needs}
-use Rattle.table_records.specs.Records.{inTurn, onEntry, onToken}
+use Rattle.table_counts.specs.Records.{inTurn, onEntry, onToken}
+use Rattle.table_counts.proofs.Entries.{entry-readable}
 use Rattle.table_records.proofs.Writes.{Left, turn-fits, turn-left, turns-over}
-use Rattle.table_records.proofs.Entries.{entries-left, entry-readable}
+use Rattle.table_records.proofs.Entries.{entries-left}
 use Rattle.table_records.proofs.write.write_on.Statement.{statement}
 use Rattle.table_records.proofs.write.write_on.Tie as tie
 

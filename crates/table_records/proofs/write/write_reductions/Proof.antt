@@ -1,7 +1,7 @@
 -- `table_records::write::write_reductions` meets its contract. The loop's invariant: what is left to write gives the room and the place. The measure is what is left of the tokens.
 use Prim.Native.Nat.{_+_, _≤_, _-_}
 use borrow.Author.Needs.{needs}
-use Rattle.table_records.specs.Records.{inTurn, onToken}
+use Rattle.table_counts.specs.Records.{inTurn, onToken}
 use Rattle.table_records.proofs.Writes.{Left, left-start, turn-fits, turn-left, turns-over}
 use Rattle.table_records.proofs.write.write_reductions.Statement.{statement}
 use Rattle.table_records.proofs.write.write_reductions.Tie as tie

@@ -7,9 +7,10 @@ use Rattle.rules.specs.Table.{tableOf}
 use Rattle.room.specs.Areas.{view}
 use Rattle.room.specs.Bounds.{FewTerminals}
 use Rattle.states.specs.StatesIn.{statesIn}
-use Rattle.table_records.specs.Records.{inTurn, ofState}
+use Rattle.table_counts.specs.Records.{inTurn, ofState}
+use Rattle.table_counts.proofs.States.{few-terminals, few-nonterminals, state-readable}
 use Rattle.table_records.proofs.Writes.{Left, turn-fits, turn-left}
-use Rattle.table_records.proofs.States.{few-terminals, few-nonterminals, state-readable, table-left, table-written}
+use Rattle.table_records.proofs.States.{table-left, table-written}
 use Rattle.table_records.proofs.write.write_table.Statement.{statement}
 use Rattle.table_records.proofs.write.write_table.Tie as tie
 

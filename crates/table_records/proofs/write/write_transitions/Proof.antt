@@ -1,10 +1,11 @@
 -- `table_records::write::write_transitions` meets its contract. The loop's invariant: what is left to write gives the room and the place. The measure is what is left of the symbols.
 use Prim.Native.Nat.{_≤_, _-_}
 use borrow.Author.Needs.{needs}
-use Rattle.table_records.specs.Records.{inTurn, overSymbol}
-use Rattle.table_records.specs.Targets.{toTarget}
+use Rattle.table_counts.specs.Records.{inTurn, overSymbol}
+use Rattle.table_counts.specs.Targets.{toTarget}
+use Rattle.table_counts.proofs.Targets.{no-targets}
 use Rattle.table_records.proofs.Writes.{Left, turn-fits, turn-left, turns-over}
-use Rattle.table_records.proofs.Targets.{no-targets, targets-left}
+use Rattle.table_records.proofs.Targets.{targets-left}
 use Rattle.table_records.proofs.write.write_transitions.Statement.{statement}
 use Rattle.table_records.proofs.write.write_transitions.Tie as tie
 

@@ -1,0 +1,5 @@
+pub mod Entries
+pub mod Frames
+pub mod Given
+pub mod Moves
+pub mod Tested

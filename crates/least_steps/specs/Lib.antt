@@ -1,0 +1,3 @@
+pub mod Giving
+pub mod Least
+pub mod Steps

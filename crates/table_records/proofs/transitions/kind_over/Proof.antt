@@ -1,8 +1,0 @@
--- `table_records::transitions::kind_over` meets its contract.
-use borrow.Author.Needs.{needs}
-use Rattle.table_records.proofs.Targets.{kind-shift, kind-goto}
-use Rattle.table_records.proofs.transitions.kind_over.Statement.{statement}
-use Rattle.table_records.proofs.transitions.kind_over.Tie as tie
-
-pub kind-over-spec : {M : Type 1} → statement M
-kind-over-spec = tie.close (tie.spec (λ c. search (needs, kind-shift)) (λ c. search (needs, kind-goto)))
