@@ -28,7 +28,7 @@ run-more : (k : ℕ) (e : Entry) (es : State) (r : Room) → k < 2048 → append
 unfolding appendRun appendAll
 run-more k e es r h = let z : 2048 - k ≡ suc (2048 - (k + 1)) = omega arith in rw z
 
-end-fits : (k size : ℕ) → k + size ≤ 2048 → runEnd k size ≡ End (k + size)
+pub end-fits : (k size : ℕ) → k + size ≤ 2048 → runEnd k size ≡ End (k + size)
 unfolding runEnd
 end-fits k size h = rw (le-ltb 2048 (k + size) h)
 

@@ -1,3 +1,4 @@
+pub mod Alone
 pub mod Appends
 pub mod Frames
 pub mod Handing

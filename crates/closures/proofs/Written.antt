@@ -151,7 +151,7 @@ present-fresh g sets e m =
     let (i, among, is) = map-among (entryOf g sets) (leftSides g) (keep-among _ _ m .0) in
     (ap (λ (x : Entry). x .next) is, rw (ap (λ (x : Entry). x .item) is) (left-side-within g i among))
 
-closure-is : (g : Grammar) (follow : Follow) (kernel : State) → closure g follow kernel ≡ kernel ++ presentEntries g (closureSets g follow kernel) (leftSides g)
+pub closure-is : (g : Grammar) (follow : Follow) (kernel : State) → closure g follow kernel ≡ kernel ++ presentEntries g (closureSets g follow kernel) (leftSides g)
 unfolding closure presentEntries
 closure-is g follow kernel = refl
 

@@ -11,7 +11,7 @@ use Rattle.base.specs.Pick.{pick}
 use Rattle.base.specs.Loops.{until}
 use Rattle.rules.specs.Grammar.{atStart, nonterminalCount}
 use Rattle.rules.specs.First.{Sets, setOf, first1}
-use Rattle.rules.specs.States.{Follow, handsOn, closeItem, itemClosed, closeKernel, closeLeftSides, closureSettled, closureSets}
+use Rattle.rules.specs.States.{Entry, Follow, closes, handsOn, closeItem, itemClosed, closeKernel, closeLeftSides, closureSettled, closureSets}
 use Rattle.grammar.specs.Asked.{Faultless}
 use Rattle.room.specs.Areas.{Room, withSets, view}
 use Rattle.room.specs.Bounds.{LongEnough, FewTerminals}
@@ -37,6 +37,11 @@ followIn g canonical n r = followOf canonical n (firstsIn g r)
 -- with what item i, whose set is that of the slot `from`, hands on as the set at hand
 abbrev pub handedOn : List ℕ → Bool → ℕ → ℕ → ℕ → Room → Room
 handedOn bytes canonical n i from r = putSet handSlot (handsOn (records bytes) (followIn (records bytes) canonical n r) i (setAt r from)) r
+
+-- ---- the item of an entry closes, with the entry's set
+unfoldable pub entryCloses : Grammar → Entry → Bool
+unfolding closes
+entryCloses g e = closes g (e .item) (e .set)
 
 -- ---- the left-side record i, with the set of its nonterminal
 unfoldable pub closeLeftSide : Grammar → Follow → ℕ → Sets → Sets

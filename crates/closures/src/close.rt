@@ -3,6 +3,7 @@ ghost use mathlib.Core.Path.{_≡_};
 ghost use mathlib.Core.Bool.{_&&_, not};
 ghost use Prim.Native.Nat.{_≤_};
 ghost use lib.ListN.{length};
+ghost use Rattle.base.specs.Lists.{someOf};
 ghost use Rattle.rules.specs.Limits.{maxEntries};
 ghost use Rattle.rules.specs.Records.{at, records};
 ghost use Rattle.rules.specs.Tokens.{isEmptySet};
@@ -10,18 +11,37 @@ ghost use Rattle.rules.specs.Grammar.{atStart, terminalCount, nonterminalCount}
 ghost use Rattle.rules.specs.First.{setOf};
 ghost use Rattle.grammar.specs.Asked.{InRange};
 ghost use Rattle.room.specs.Areas.{view};
-ghost use Rattle.states.specs.StatesIn.{PlacedRun};
-ghost use Rattle.closures.specs.Closures.{Closable, closuresIn};
+ghost use Rattle.room.specs.Bounds.{LongEnough};
+ghost use Rattle.states.specs.StatesIn.{runIn, PlacedRun};
+ghost use Rattle.closures.specs.Closures.{Closable, closuresIn, entryCloses};
 ghost use Rattle.closures.specs.Runs.{AppendedRun, Closes, presentIn};
 use super::Appended;
 use super::MAX_ENTRIES;
+use super::items::closes;
 use super::rounds::closure_sets;
 use grammar::items::at_start;
 use grammar::records::record_count;
 use grammar::records::symbol;
 use lookahead::is_empty;
 use room::slots::closure_slot;
+use room::slots::entry_slot;
 use states::append_entry;
+use states::item;
+
+// Some entry of the run from `first` to `end` closes.
+fn some_closes(g: &[u8], first: usize, end: usize, work: &[u64]) -> bool
+    requires { ⌜ LongEnough (now work) × PlacedRun (length (records (now g))) (view (now work)) first end ⌝ }
+    ensures { λ r. ⌜ r ≡ someOf (entryCloses (records (now (g .entry)))) (runIn (view (now (work .entry))) first end) ⌝ }
+{
+    for k in first..end {
+        let i = item(work, k);
+        let from = entry_slot(k);
+        if closes(g, i, work, from) {
+            return true;
+        }
+    }
+    false
+}
 
 // Record i is a left side whose nonterminal has a set.
 fn is_present(g: &[u8], n: usize, i: usize, work: &[u64]) -> bool
@@ -59,8 +79,8 @@ fn append_left_sides(g: &[u8], n: usize, end: usize, work: &mut [u64]) -> Append
     Appended::End(to)
 }
 
-// The kernel that lies from `first` to `end` is closed: behind it the left-side records of its closure are appended. n and m are the
-// grammar's numbers of terminals and nonterminals. build/mod.rs: transitive_closure
+// The kernel that lies from `first` to `end` is closed: behind it the left-side records of its closure are appended; where no entry closes,
+// there are none. n and m are the grammar's numbers of terminals and nonterminals. build/mod.rs: transitive_closure
 pub fn close(
     g: &[u8],
     canonical: bool,
@@ -74,6 +94,9 @@ pub fn close(
     requires { ⌜ (n ≡ terminalCount (records (now g))) × (m ≡ nonterminalCount (records (now g))) ⌝ }
     ensures { λ r. ⌜ Closes (now (g .entry)) canonical n first end (now (work .entry)) (now (work .exit)) r ⌝ }
 {
+    if !some_closes(g, first, end, work) {
+        return Appended::End(end);
+    }
     closure_sets(g, canonical, n, m, first, end, work);
     append_left_sides(g, n, end, work)
 }

@@ -33,7 +33,7 @@ fn hand_on(g: &[u8], canonical: bool, n: usize, i: usize, work: &mut [u64], from
 }
 
 // Item i, with the set of the slot, has a nonterminal behind its dot; the empty set means that the item is absent.
-fn closes(g: &[u8], i: usize, work: &[u64], slot: usize) -> bool
+pub fn closes(g: &[u8], i: usize, work: &[u64], slot: usize) -> bool
     requires { ⌜ LongEnough (now work) × InRange i (now g) × IsSlot slot ⌝ }
     ensures { λ r. ⌜ r ≡ closes (records (now (g .entry))) i (setAt (view (now (work .entry))) slot) ⌝ }
 {
