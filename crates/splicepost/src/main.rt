@@ -96,7 +96,7 @@ fn main() {
     if asked.unknown {
         io::write_all(
             STDERR_FILENO,
-            b"usage: splicepost [canonical] [bytes] < GRAMMAR\n",
+            b"usage: splicepost [canonical] [bytes] < GRAMMAR\nwhat a refusal's number means: docs/REFUSALS.md\n",
         );
         return;
     }

@@ -161,7 +161,7 @@ fn main() {
     if os::arg_count() != 4 {
         io::write_all(
             STDERR_FILENO,
-            b"usage: splicepost_drive GRAMMAR TABLE TOKENS\n",
+            b"usage: splicepost_drive GRAMMAR TABLE TOKENS\nwhat a refusal's number means: docs/REFUSALS.md\n",
         );
         return;
     }
