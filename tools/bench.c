@@ -14,7 +14,7 @@
 
 #include "splicepost.h"
 
-enum { WORK = 8192, TABLE = 128 * 127 * 8, GRAMMAR = 4096 };
+enum { WORK = SPLICEPOST_WORK, TABLE = SPLICEPOST_TABLE, GRAMMAR = SPLICEPOST_GRAMMAR };
 
 struct job {
     uint8_t bytes[5 + GRAMMAR];
