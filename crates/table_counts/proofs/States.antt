@@ -18,37 +18,28 @@ use Rattle.room.specs.Bounds.{LongEnough, FewTerminals}
 use Rattle.states.specs.StatesIn.{stateIn, statesIn, Placed}
 use Rattle.lr.specs.Kernels.{symbolBy}
 use Rattle.table_counts.specs.Asked.{Readable}
-use Rattle.table_counts.specs.Records.{inTurn, kindOver, overSymbol, onToken, ofState}
+use Rattle.table_counts.specs.Records.{inTurn, kindOver, overSymbol, onToken, shiftsOf, gotosOf, reductionsOf, ofState}
 
 -- ---- a state: shifts, gotos, reductions
 module _ (bytes work : List ℕ) (s n m : ℕ) (terminals : n ≡ terminalCount (records bytes)) (nonterminals : m ≡ nonterminalCount (records bytes)) where
-  abbrev shiftsOf : List TableRecord
-  shiftsOf = inTurn (overSymbol bytes work s 1) 0 n
-
-  abbrev gotosOf : List TableRecord
-  gotosOf = inTurn (overSymbol bytes work s 0) 0 m
-
-  abbrev reductionsOf : List TableRecord
-  reductionsOf = inTurn (onToken bytes work s) 0 (n + 1)
-
-  shifts-are : shiftsOf ≡ shiftRecords (records bytes) s (stateIn (view work) s)
+  shifts-are : shiftsOf bytes work s n ≡ shiftRecords (records bytes) s (stateIn (view work) s)
   unfolding inTurn overSymbol shiftRecords upTo kindOver symbolBy
   shifts-are = rw (sub-zero, terminals)
 
-  gotos-are : gotosOf ≡ gotoRecords (records bytes) s (stateIn (view work) s)
+  gotos-are : gotosOf bytes work s m ≡ gotoRecords (records bytes) s (stateIn (view work) s)
   unfolding inTurn overSymbol gotoRecords upTo kindOver symbolBy
   gotos-are = rw (sub-zero, nonterminals)
 
-  reductions-are : reductionsOf ≡ reduceRecords (records bytes) s (stateIn (view work) s)
+  reductions-are : reductionsOf bytes work s n ≡ reduceRecords (records bytes) s (stateIn (view work) s)
   unfolding inTurn onToken reduceRecords upTo
   reductions-are = rw (sub-zero, terminals)
 
-  pub state-parts : ofState bytes work s ≡ shiftsOf ++ (gotosOf ++ reductionsOf)
+  pub state-parts : ofState bytes work s ≡ shiftsOf bytes work s n ++ (gotosOf bytes work s m ++ reductionsOf bytes work s n)
   unfolding ofState stateRecords
   state-parts = rw (shifts-are, gotos-are, reductions-are)
 
-  pub state-counted : (a b c : ℕ) → a ≡ length shiftsOf → b ≡ length gotosOf → c ≡ length reductionsOf → a + b + c ≡ length (ofState bytes work s)
-  state-counted a b c p q r = omega (arith, ap length state-parts, length-append shiftsOf (gotosOf ++ reductionsOf), length-append gotosOf reductionsOf)
+  pub state-counted : (a b c : ℕ) → a ≡ length (shiftsOf bytes work s n) → b ≡ length (gotosOf bytes work s m) → c ≡ length (reductionsOf bytes work s n) → a + b + c ≡ length (ofState bytes work s)
+  state-counted a b c p q r = omega (arith, ap length state-parts, length-append (shiftsOf bytes work s n) (gotosOf bytes work s m ++ reductionsOf bytes work s n), length-append (gotosOf bytes work s m) (reductionsOf bytes work s n))
 
 -- ---- all states
 module _ (bytes work : List ℕ) (count : ℕ) where

@@ -1,6 +1,6 @@
 -- The records of the states in the room, in the order in which the code goes: a state's symbols in turn, its tokens in turn, and for a
 -- token its entries in turn. That these are the records of `rules` is proved in proofs/States.antt.
-use Prim.Native.Nat.{ℕ, _-_, _<_}
+use Prim.Native.Nat.{ℕ, _+_, _-_, _<_}
 use mathlib.Core.Bool.{_&&_}
 use mathlib.Core.List.{List, [], _∷_, map}
 use lib.Dec.{eqb}
@@ -47,6 +47,17 @@ unfolding tableRecord at records keep has reductions stateIn
 onToken bytes work s t =
     map (λ e. tableRecord s 2 t (at (records bytes) (e .item) .production)) (keep (λ e. has (e .set) t) (reductions (records bytes) (stateIn (view work) s)))
 
+-- the shifts of state s, its gotos and its reductions, with n terminals and m nonterminals
+abbrev pub shiftsOf : List ℕ → List ℕ → ℕ → ℕ → List TableRecord
+shiftsOf bytes work s n = inTurn (overSymbol bytes work s 1) 0 n
+
+abbrev pub gotosOf : List ℕ → List ℕ → ℕ → ℕ → List TableRecord
+gotosOf bytes work s m = inTurn (overSymbol bytes work s 0) 0 m
+
+abbrev pub reductionsOf : List ℕ → List ℕ → ℕ → ℕ → List TableRecord
+reductionsOf bytes work s n = inTurn (onToken bytes work s) 0 (n + 1)
+
+-- and all of its records
 unfoldable pub ofState : List ℕ → List ℕ → ℕ → List TableRecord
 unfolding stateRecords records stateIn
 ofState bytes work s = stateRecords (records bytes) s (stateIn (view work) s)

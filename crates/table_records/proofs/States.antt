@@ -10,45 +10,36 @@ use Rattle.rules.specs.Table.{TableRecord, tableBytes, tableOf}
 use Rattle.rules.specs.Rooms.{overwritten}
 use Rattle.room.specs.Areas.{view}
 use Rattle.states.specs.StatesIn.{statesIn}
-use Rattle.table_counts.specs.Records.{inTurn, overSymbol, onToken, ofState}
+use Rattle.table_counts.specs.Records.{inTurn, shiftsOf, gotosOf, reductionsOf, ofState}
 use Rattle.table_counts.proofs.States.{state-parts, table-in-turn}
 use Rattle.table_records.specs.Written.{writtenAt, Fits, Wrote}
 use Rattle.table_records.proofs.Writes.{Left, left-all, left-end, fits-first, left-second, turns-over}
 
 -- ---- a state: shifts, gotos, reductions
 module _ (bytes work : List ℕ) (s n m : ℕ) (terminals : n ≡ terminalCount (records bytes)) (nonterminals : m ≡ nonterminalCount (records bytes)) where
-  abbrev shiftsOf : List TableRecord
-  shiftsOf = inTurn (overSymbol bytes work s 1) 0 n
-
-  abbrev gotosOf : List TableRecord
-  gotosOf = inTurn (overSymbol bytes work s 0) 0 m
-
-  abbrev reductionsOf : List TableRecord
-  reductionsOf = inTurn (onToken bytes work s) 0 (n + 1)
-
   module _ (at : ℕ) (table : List ℕ) (fits : Fits (ofState bytes work s) at table) where
-    whole : Left (shiftsOf ++ (gotosOf ++ reductionsOf)) at table (ofState bytes work s) at table
+    whole : Left (shiftsOf bytes work s n ++ (gotosOf bytes work s m ++ reductionsOf bytes work s n)) at table (ofState bytes work s) at table
     whole = left-all (ofState bytes work s) _ at table (state-parts bytes work s n m terminals nonterminals) fits
 
-    pub shifts-fit : Fits shiftsOf at table
-    shifts-fit = fits-first shiftsOf (gotosOf ++ reductionsOf) at table _ at table whole
+    pub shifts-fit : Fits (shiftsOf bytes work s n) at table
+    shifts-fit = fits-first (shiftsOf bytes work s n) (gotosOf bytes work s m ++ reductionsOf bytes work s n) at table _ at table whole
 
-    module _ (t1 : List ℕ) (e1 : ℕ) (shifted : Wrote shiftsOf at table t1 e1) where
-      behind-shifts : Left (gotosOf ++ reductionsOf) e1 t1 (ofState bytes work s) at table
-      behind-shifts = left-second shiftsOf (gotosOf ++ reductionsOf) at table _ at table whole t1 e1 shifted
+    module _ (t1 : List ℕ) (e1 : ℕ) (shifted : Wrote (shiftsOf bytes work s n) at table t1 e1) where
+      behind-shifts : Left (gotosOf bytes work s m ++ reductionsOf bytes work s n) e1 t1 (ofState bytes work s) at table
+      behind-shifts = left-second (shiftsOf bytes work s n) (gotosOf bytes work s m ++ reductionsOf bytes work s n) at table _ at table whole t1 e1 shifted
 
-      pub gotos-fit : Fits gotosOf e1 t1
-      gotos-fit = fits-first gotosOf reductionsOf e1 t1 _ at table behind-shifts
+      pub gotos-fit : Fits (gotosOf bytes work s m) e1 t1
+      gotos-fit = fits-first (gotosOf bytes work s m) (reductionsOf bytes work s n) e1 t1 _ at table behind-shifts
 
-      module _ (t2 : List ℕ) (e2 : ℕ) (gone : Wrote gotosOf e1 t1 t2 e2) where
-        behind-gotos : Left reductionsOf e2 t2 (ofState bytes work s) at table
-        behind-gotos = left-second gotosOf reductionsOf e1 t1 _ at table behind-shifts t2 e2 gone
+      module _ (t2 : List ℕ) (e2 : ℕ) (gone : Wrote (gotosOf bytes work s m) e1 t1 t2 e2) where
+        behind-gotos : Left (reductionsOf bytes work s n) e2 t2 (ofState bytes work s) at table
+        behind-gotos = left-second (gotosOf bytes work s m) (reductionsOf bytes work s n) e1 t1 _ at table behind-shifts t2 e2 gone
 
-        pub reductions-fit : Fits reductionsOf e2 t2
+        pub reductions-fit : Fits (reductionsOf bytes work s n) e2 t2
         reductions-fit = behind-gotos .fits
 
-        pub state-written : (t3 : List ℕ) (e3 : ℕ) → Wrote reductionsOf e2 t2 t3 e3 → Wrote (ofState bytes work s) at table t3 e3
-        state-written t3 e3 reduced = left-end reductionsOf e2 t2 (ofState bytes work s) at table behind-gotos t3 e3 reduced
+        pub state-written : (t3 : List ℕ) (e3 : ℕ) → Wrote (reductionsOf bytes work s n) e2 t2 t3 e3 → Wrote (ofState bytes work s) at table t3 e3
+        state-written t3 e3 reduced = left-end (reductionsOf bytes work s n) e2 t2 (ofState bytes work s) at table behind-gotos t3 e3 reduced
 
 -- ---- all states
 module _ (bytes work : List ℕ) (count : ℕ) where
