@@ -13,20 +13,20 @@ use Rattle.table_records.specs.Result.{gaveIn}
 use Rattle.driver.specs.Results.{droveIn}
 use Rattle.answers.specs.Meant.{meant}
 use Rattle.answers.specs.declared.Said.{Said}
-use Rattle.splicepost_c.specs.Numbers.{number, numbers, filled}
+use Rattle.splicepost_c.specs.Numbers.{number, numbers, withNumbers}
 use Rattle.splicepost_c.specs.Calls.{builtIn, drivenIn, builtTold, drivenTold, buildCall, driveCall}
 
 module _ (answer after : List ℕ) (r : ℕ) where
   -- the number and the cells of s
   abbrev Tells : rules.Said → Type 0
-  Tells s = (r ≡ number s) × (after ≡ filled (numbers s) answer)
+  Tells s = (r ≡ number s) × (after ≡ withNumbers (numbers s) answer)
 
   module _ {A : Type 0} (call : ℕ → List ℕ → A) where
-    as-meant : (s t : rules.Said) → s ≡ t → Tells t → call r after ≡ call (number s) (filled (numbers s) answer)
+    as-meant : (s t : rules.Said) → s ≡ t → Tells t → call r after ≡ call (number s) (withNumbers (numbers s) answer)
     as-meant s t is tells =
         ap (λ (n : ℕ). call n after) (tells .0)
         ∙ ap (call (number t)) (tells .1)
-        ∙ ap (λ (u : rules.Said). call (number u) (filled (numbers u) answer)) (sym is)
+        ∙ ap (λ (u : rules.Said). call (number u) (withNumbers (numbers u) answer)) (sym is)
 
   module _ (said : Said) where
     pub build-called : (mode : ℕ) (grammar table work table′ work′ : List ℕ) (a : BuildAnswer) → gaveIn a table′ work′ ≡ build limits mode grammar table work

@@ -5,7 +5,7 @@ use Rattle.rules.specs.Limits.{limits}
 use Rattle.rules.specs.Answers.{buildSaid, driveSaid}
 use Rattle.rules.specs.Build.{BuildResult, build}
 use Rattle.rules.specs.Drive.{DriveResult, drive}
-use Rattle.splicepost_c.specs.Numbers.{number, numbers, filled}
+use Rattle.splicepost_c.specs.Numbers.{number, numbers, withNumbers}
 
 pub record BuildCall : Type 0 where
   pub returned : ℕ
@@ -28,16 +28,16 @@ drivenIn returned stack list answer = record { returned = returned; stack = stac
 
 -- a result in numbers
 abbrev pub builtTold : BuildResult → List ℕ → BuildCall
-builtTold r answer = builtIn (number (buildSaid (r .answer))) (r .table) (r .work) (filled (numbers (buildSaid (r .answer))) answer)
+builtTold r answer = builtIn (number (buildSaid (r .answer))) (r .table) (r .work) (withNumbers (numbers (buildSaid (r .answer))) answer)
 
 abbrev pub drivenTold : DriveResult → List ℕ → DriveCall
-drivenTold r answer = drivenIn (number (driveSaid (r .answer))) (r .stack) (r .list) (filled (numbers (driveSaid (r .answer))) answer)
+drivenTold r answer = drivenIn (number (driveSaid (r .answer))) (r .stack) (r .list) (withNumbers (numbers (driveSaid (r .answer))) answer)
 
 -- ---- the calls
 unfoldable pub buildCall : ℕ → List ℕ → List ℕ → List ℕ → List ℕ → BuildCall
-unfolding build buildSaid number numbers filled
+unfolding build buildSaid number numbers withNumbers
 buildCall mode grammar table work answer = builtTold (build limits mode grammar table work) answer
 
 unfoldable pub driveCall : List ℕ → List ℕ → List ℕ → ℕ → List ℕ → List ℕ → List ℕ → DriveCall
-unfolding drive driveSaid number numbers filled
+unfolding drive driveSaid number numbers withNumbers
 driveCall grammar table tokens limit stack list answer = drivenTold (drive limits grammar table tokens limit stack list) answer

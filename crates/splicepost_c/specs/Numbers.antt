@@ -20,7 +20,7 @@ numbers (accepted steps listed) = 0 ∷ steps ∷ listed ∷ []
 numbers (stopped refusal place steps listed) = place ∷ steps ∷ listed ∷ []
 
 -- numbers in the first cells, as many as there are; the other cells stay
-unfoldable pub filled : List ℕ → List ℕ → List ℕ
-filled [] cells = cells
-filled (n ∷ ns) [] = []
-filled (n ∷ ns) (cell ∷ cells) = n ∷ filled ns cells
+unfoldable pub withNumbers : List ℕ → List ℕ → List ℕ
+withNumbers [] cells = cells
+withNumbers (n ∷ ns) [] = []
+withNumbers (n ∷ ns) (cell ∷ cells) = n ∷ withNumbers ns cells

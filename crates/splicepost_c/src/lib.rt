@@ -5,7 +5,7 @@ ghost use mathlib.Core.Path.{_≡_};
 ghost use mathlib.Core.List.{[], _∷_};
 ghost use lib.ListN.{set};
 ghost use Rattle.answers.specs.Meant.{meant};
-ghost use Rattle.splicepost_c.specs.Numbers.{number, numbers, filled};
+ghost use Rattle.splicepost_c.specs.Numbers.{number, numbers, withNumbers};
 ghost use Rattle.splicepost_c.specs.Calls.{builtIn, drivenIn, buildCall, driveCall};
 
 // Puts a number into a cell of the answer, if it has that cell.
@@ -19,7 +19,7 @@ fn put(answer: &mut [u64], cell: usize, value: usize)
 
 // Puts the place and two counts into the answer's first cells, as many as there are, and gives the number to return.
 fn tell(refusal: u64, place: usize, first: usize, second: usize, answer: &mut [u64]) -> u64
-    ensures { λ r. ⌜ (r ≡ refusal) × (now (answer .exit) ≡ filled (place ∷ first ∷ second ∷ []) (now (answer .entry))) ⌝ }
+    ensures { λ r. ⌜ (r ≡ refusal) × (now (answer .exit) ≡ withNumbers (place ∷ first ∷ second ∷ []) (now (answer .entry))) ⌝ }
 {
     put(answer, 0, place);
     put(answer, 1, first);
@@ -29,7 +29,7 @@ fn tell(refusal: u64, place: usize, first: usize, second: usize, answer: &mut [u
 
 // The numbers of an answer; 0 where it has none.
 fn tell_said(said: Said, answer: &mut [u64]) -> u64
-    ensures { λ r. ⌜ (r ≡ number (meant said)) × (now (answer .exit) ≡ filled (numbers (meant said)) (now (answer .entry))) ⌝ }
+    ensures { λ r. ⌜ (r ≡ number (meant said)) × (now (answer .exit) ≡ withNumbers (numbers (meant said)) (now (answer .entry))) ⌝ }
 {
     match said {
         Said::Coded => tell(0, 0, 0, 0, answer),
