@@ -1,4 +1,4 @@
-/* Document 01's example 1 built, its table driven over the tokens of examples 2 and 4, and a room too short for the table. */
+/* S -> A, A -> a built, its table driven over a, over a a, which is rejected, and over what is no token, and a room too short for the table. */
 #include <inttypes.h>
 #include <stdio.h>
 
@@ -22,12 +22,26 @@ static unsigned number_at(const uint8_t *bytes) {
     return bytes[0] + 256u * bytes[1];
 }
 
+/* What the refusals of this example mean. */
+static const char *meaning(uint64_t refusal) {
+    switch (refusal) {
+    case SPLICEPOST_REFUSED_TABLE_ROOM:
+        return "the table room is too short for so many records";
+    case SPLICEPOST_REFUSED_TOKEN:
+        return "this token is no terminal of the grammar";
+    case SPLICEPOST_REFUSED_REJECTED:
+        return "rejected at this token";
+    default:
+        return "docs/REFUSALS.md";
+    }
+}
+
 /* Builds the table in a room of so many bytes, prints it or the refusal, and returns the number of records. */
 static size_t build(size_t room) {
     uint64_t answer[SPLICEPOST_ANSWER];
     uint64_t refusal = splicepost_build(SPLICEPOST_LANE, grammar, sizeof grammar, table, room, work, SPLICEPOST_WORK, answer, SPLICEPOST_ANSWER);
-    if (refusal != 0) {
-        printf("refused %" PRIu64 " %" PRIu64 "\n", refusal, answer[0]);
+    if (refusal != SPLICEPOST_DONE) {
+        printf("refused %" PRIu64 " %" PRIu64 ": %s\n", refusal, answer[0], meaning(refusal));
         return 0;
     }
     printf("built %" PRIu64 " states %" PRIu64 " records\n", answer[1], answer[2]);
@@ -37,26 +51,31 @@ static size_t build(size_t room) {
     return answer[2];
 }
 
-/* Drives the table over tokens, and prints how the run ended, its steps and list length, and the productions listed. */
+/* Drives the table over tokens, and prints steps, list length and the productions listed, or how the run ended. */
 static void drive(size_t records, const uint8_t *tokens, size_t length) {
     uint64_t answer[SPLICEPOST_ANSWER];
     uint64_t refusal = splicepost_drive(grammar, sizeof grammar, table, 8 * records, tokens, length, 1000, stack, 64, list, 64, answer, SPLICEPOST_ANSWER);
-    if (refusal != 0) {
-        printf("refused %" PRIu64 " %" PRIu64, refusal, answer[0]);
-    } else {
-        printf("accepted");
+    if (refusal >= SPLICEPOST_REFUSED_REJECTED) {
+        printf("refused %" PRIu64 " %" PRIu64 " %" PRIu64 " %" PRIu64 ": %s\n", refusal, answer[0], answer[1], answer[2], meaning(refusal));
+        return;
     }
-    printf(" %" PRIu64 " %" PRIu64 "\n", answer[1], answer[2]);
+    if (refusal != SPLICEPOST_DONE) {
+        printf("refused %" PRIu64 " %" PRIu64 ": %s\n", refusal, answer[0], meaning(refusal));
+        return;
+    }
+    printf("accepted %" PRIu64 " %" PRIu64 "\n", answer[1], answer[2]);
     for (size_t i = 0; i < answer[2]; i++) {
         printf("%u\n", (unsigned)list[i]);
     }
 }
 
 int main(void) {
-    const uint8_t tokens[] = {0, 0};
+    const uint8_t twice[] = {0, 0};
+    const uint8_t unknown[] = {1};
     size_t records = build(sizeof table);
-    drive(records, tokens, 1);
-    drive(records, tokens, 2);
+    drive(records, twice, 1);
+    drive(records, twice, 2);
+    drive(records, unknown, 1);
     build(24);
     return 0;
 }

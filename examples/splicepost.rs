@@ -3,40 +3,108 @@
 //! `unsafe` stands here alone. What the calls ask (include/splicepost.h) is what slices are: aligned, as long as they say, and none that
 //! is written to overlaps another.
 
+use std::error::Error;
+use std::fmt::{self, Display, Formatter};
+
 /// The numbers that the builder takes of the work room.
 pub const WORK: usize = 8192;
 
 /// The bytes of the longest table.
 pub const TABLE: usize = 128 * 127 * 8;
 
-#[derive(Clone, Copy)]
+#[derive(Clone, Copy, Debug, PartialEq, Eq)]
 pub enum Mode {
     Lane,
     Canonical,
 }
 
-/// Document 01's number of a refusal and its place: docs/REFUSALS.md.
+/// The number of a refusal and its place: docs/REFUSALS.md.
+#[derive(Clone, Copy, Debug, PartialEq, Eq)]
 pub struct Refused {
     pub number: u64,
     pub place: u64,
 }
 
 /// A table that was built: its records are the first bytes of the table room, 8 bytes each.
+#[derive(Clone, Copy, Debug, PartialEq, Eq)]
 pub struct Built {
     pub states: usize,
     pub records: usize,
 }
 
 /// The steps that a run made, and the productions that it put on the list.
+#[derive(Clone, Copy, Debug, PartialEq, Eq)]
 pub struct Run {
     pub steps: u64,
     pub listed: usize,
 }
 
 /// A run that did not accept, or none: its steps and list are then 0.
+#[derive(Clone, Copy, Debug, PartialEq, Eq)]
 pub struct Stopped {
     pub why: Refused,
     pub run: Run,
+}
+
+impl Refused {
+    /// What the number means, in a few words.
+    pub fn meaning(&self) -> &'static str {
+        match self.number {
+            1 => "no such mode",
+            2 => "the work room is too short",
+            3 => "the grammar is empty, too long, or no multiple of 8 bytes",
+            4 => "this record of the grammar holds what none may",
+            5 => "this record of the grammar stands where it cannot",
+            6 => "the start stands in this production too",
+            7 => "this nonterminal has no production",
+            8 => "this nonterminal derives no string of terminals",
+            9 => "too many states",
+            10 => "too many items",
+            11 => "too many actions at this state",
+            12 => "so many conflicts",
+            13 => "this state fails the final check",
+            14 => "the table room is too short for so many records",
+            15 => "this record of the table is malformed",
+            16 => "this token is no terminal of the grammar",
+            17 => "rejected at this token",
+            18 => "the table is broken",
+            19 => "the list room is full",
+            20 => "the stack room is full",
+            21 => "the step limit is reached",
+            _ => "no number of a refusal",
+        }
+    }
+
+    /// Whether a run had begun: 17 to 21 come with its steps and its list.
+    pub fn ended_a_run(&self) -> bool {
+        17 <= self.number
+    }
+}
+
+/// The line that the program prints, and what the number means.
+impl Display for Refused {
+    fn fmt(&self, f: &mut Formatter<'_>) -> fmt::Result {
+        write!(f, "refused {} {}: {}", self.number, self.place, self.meaning())
+    }
+}
+
+/// The same, with steps and list length where a run had begun.
+impl Display for Stopped {
+    fn fmt(&self, f: &mut Formatter<'_>) -> fmt::Result {
+        let Stopped { why, run } = self;
+        if !why.ended_a_run() {
+            return why.fmt(f);
+        }
+        write!(f, "refused {} {} {} {}: {}", why.number, why.place, run.steps, run.listed, why.meaning())
+    }
+}
+
+impl Error for Refused {}
+
+impl Error for Stopped {
+    fn source(&self) -> Option<&(dyn Error + 'static)> {
+        Some(&self.why)
+    }
 }
 
 #[link(name = "splicepost_c", kind = "static")]

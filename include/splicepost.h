@@ -8,7 +8,15 @@
    - nobody else writes to a room, or reads one that is written to, until the call returns.
    How much stack a call takes is no part of what is proved.
 
-   A call returns 0, or document 01's refusal, 1 to 21: docs/REFUSALS.md says what each means and what its place is. */
+   Grammars and tables are records of 8 bytes; numbers of two bytes have their low byte first. docs/FORMATS.md says all of both.
+
+     grammar   0-1 production   2-3 position, 0 the left side   4 kind: 0 nonterminal, 1 terminal   5 zero   6-7 symbol
+     table     0-1 state        2 kind: 0 shift, 1 goto, 2 reduction   3 zero   4-5 symbol   6-7 target state, or production
+
+   n is one more than the highest terminal that the grammar names, and Eof, the end of the tokens, is n: it stands in reductions alone.
+
+   A call returns 0, or the number of a refusal, 1 to 21: SPLICEPOST_REFUSED_* below; docs/REFUSALS.md says what each means and what
+   its place is. */
 #ifndef SPLICEPOST_H
 #define SPLICEPOST_H
 
@@ -23,6 +31,17 @@ extern "C" {
 #define SPLICEPOST_LANE 0
 #define SPLICEPOST_CANONICAL 1
 
+/* Terminals, nonterminals, productions, symbols on a right side: more are refused with 4 and 5. */
+#define SPLICEPOST_TERMINALS 62
+#define SPLICEPOST_NONTERMINALS 64
+#define SPLICEPOST_PRODUCTIONS 128
+#define SPLICEPOST_SYMBOLS 16
+
+/* States, and items of all states together: more are refused with 9 and 10. Actions traced at one state in lane mode: 11. */
+#define SPLICEPOST_STATES 128
+#define SPLICEPOST_ITEMS 2048
+#define SPLICEPOST_ACTIONS 16
+
 /* The longest grammar, in bytes; longer ones are refused with 3. */
 #define SPLICEPOST_GRAMMAR 4096
 
@@ -35,6 +54,30 @@ extern "C" {
 
 /* The cells of a whole answer: the place, and two counts. */
 #define SPLICEPOST_ANSWER 3
+
+/* What a call returns. The builder gives 1 to 14, the driver 3 to 8 and 15 to 21. */
+#define SPLICEPOST_DONE 0                     /* built, or accepted */
+#define SPLICEPOST_REFUSED_MODE 1             /* no such mode */
+#define SPLICEPOST_REFUSED_WORK_ROOM 2        /* the work room is too short */
+#define SPLICEPOST_REFUSED_LENGTH 3           /* the grammar is empty, too long, or no multiple of 8 bytes */
+#define SPLICEPOST_REFUSED_BAD_RECORD 4       /* a record of the grammar holds what none may; the place is its number */
+#define SPLICEPOST_REFUSED_OUT_OF_SEQUENCE 5  /* a record of the grammar stands where it cannot; its number */
+#define SPLICEPOST_REFUSED_START_AGAIN 6      /* the start stands in another place than the left of production 0; the production */
+#define SPLICEPOST_REFUSED_NO_PRODUCTION 7    /* a nonterminal has no production; which */
+#define SPLICEPOST_REFUSED_NO_STRING 8        /* a nonterminal derives no string of terminals; which */
+#define SPLICEPOST_REFUSED_STATES 9           /* too many states */
+#define SPLICEPOST_REFUSED_ITEMS 10           /* too many items */
+#define SPLICEPOST_REFUSED_ACTIONS 11         /* lane mode: too many actions at a state; which */
+#define SPLICEPOST_REFUSED_CONFLICTS 12       /* conflicts; how many */
+#define SPLICEPOST_REFUSED_FINAL_CHECK 13     /* lane mode: the finished table fails its check; the lowest state that fails */
+#define SPLICEPOST_REFUSED_TABLE_ROOM 14      /* the table room is too short; how many records are wanted */
+#define SPLICEPOST_REFUSED_TABLE 15           /* the table is malformed; the record */
+#define SPLICEPOST_REFUSED_TOKEN 16           /* a token is no terminal of the grammar; which */
+#define SPLICEPOST_REFUSED_REJECTED 17        /* rejected: no action on the token; which, or how many there are at the end */
+#define SPLICEPOST_REFUSED_BROKEN 18          /* the table is broken; the token, here and below */
+#define SPLICEPOST_REFUSED_LIST_FULL 19       /* the list room is full */
+#define SPLICEPOST_REFUSED_STACK_FULL 20      /* the stack room is full */
+#define SPLICEPOST_REFUSED_STEP_LIMIT 21      /* the step limit is reached */
 
 /* Builds the table of a coded grammar.
 
@@ -50,8 +93,8 @@ uint64_t splicepost_build(uint64_t mode,
                           uint64_t *work, size_t work_length,
                           uint64_t *answer, size_t answer_length);
 
-/* Runs a table over tokens, one byte each, in at most `limit` steps. The table's bytes are its records alone, without the room behind
-   them.
+/* Runs a table over tokens, one byte each, in at most `limit` steps. The table's bytes are its records alone, 8 for each that the
+   builder's answer counts, without the room behind them.
 
    Returns 0 if the tokens are accepted; 3 to 8, 15 or 16 if grammar, table or tokens are refused, and then stack and list are as they
    were; 17 to 21 if the run stopped. The list's first cells are the productions reduced, in order, as many as the answer says.
