@@ -2,7 +2,8 @@
 //
 // It prints `built`, the counts of states and records, and behind that the records, one a line; or `refused` with document 01's number and
 // place. Without a word it builds in lane mode. The word `canonical` asks for canonical mode; the word `bytes` for the bytes of the
-// table instead of the text, and a refusal is then said on standard error.
+// table instead of the text, and a refusal is then said on standard error. Standard input that cannot be read and standard output that
+// does not take all are said on standard error too: where that is empty, what was printed is whole.
 use libc::STDERR_FILENO;
 use libc::STDIN_FILENO;
 use libc::STDOUT_FILENO;
@@ -58,15 +59,15 @@ fn read_words() -> Asked {
 }
 
 // Writes the bytes of the first `count` records of a table.
-fn write_records(table: &[u8], count: usize)
+fn write_records(table: &[u8], count: usize) -> bool
     requires { ⌜ 8 * count ≤ length (now table) ⌝ }
 {
     let end = 8 * count;
-    io::write_all(STDOUT_FILENO, &table[0..end]);
+    io::write_all(STDOUT_FILENO, &table[0..end])
 }
 
 // Writes the bytes of the table, or on standard error why there is none.
-fn write_bytes(answer: BuildAnswer, table: &[u8])
+fn write_bytes(answer: BuildAnswer, table: &[u8]) -> bool
     requires { ⌜ RecordsWithin answer (now table) ⌝ }
 {
     match answer {
@@ -78,16 +79,15 @@ fn write_bytes(answer: BuildAnswer, table: &[u8])
     }
 }
 
-// Builds the table and writes it as it is asked for.
-fn build_asked(asked: Asked, grammar: &[u8]) {
+// Builds the table and writes it as it is asked for; false if not all of it was written.
+fn build_asked(asked: Asked, grammar: &[u8]) -> bool {
     let mut table = io::large_buffer();
     let mut work = [0u64; 8192];
     let answer = builder::build(asked.mode, grammar, &mut table, &mut work);
     if asked.bytes {
-        write_bytes(answer, &table);
-        return;
+        return write_bytes(answer, &table);
     }
-    text::write_built(answer, &table);
+    text::write_built(answer, &table)
 }
 
 // Of more than 65,536 bytes these are read: they are too long for a grammar, and refused as the whole would be.
@@ -101,6 +101,13 @@ fn main() {
         return;
     }
     let mut input = io::large_buffer();
-    let size = io::read_full(STDIN_FILENO, &mut input);
-    build_asked(asked, &input[..size]);
+    let file = input::files::read(STDIN_FILENO, &mut input);
+    if !file.readable {
+        os::fail(b"standard input");
+        return;
+    }
+    let size = file.size;
+    if !build_asked(asked, &input[..size]) {
+        os::fail(b"standard output");
+    }
 }
