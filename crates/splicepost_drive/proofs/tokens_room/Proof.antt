@@ -6,7 +6,7 @@ use Rattle.splicepost_drive.proofs.tokens_room.Statement.{statement}
 use Rattle.splicepost_drive.proofs.tokens_room.Tie as tie
 
 returns : tie.Need-returns
-returns c = sym (length-replicate {A = ℕ} 1114112 0)
+returns c = sym (length-replicate {A = ℕ} 1000000 0)
 
 pub tokens-room-spec : {M : Type 1} → statement M
 tokens-room-spec = tie.close (tie.spec returns)

@@ -22,5 +22,6 @@ write-productions-spec =
     (λ c κs. search needs)
     (λ c. search needs)
     (λ c. search needs)
+    (λ c. search needs)
     (λ c. tt)
     (λ c. search needs))
