@@ -1,4 +1,6 @@
 // The definitions that the contracts of every crate cite, and their laws. Its only code is a byte as a wider number.
+#![tactic(auto)]
+
 ghost use Rattle.std.specs.Prelude.{◌≡◌, ◌<◌};
 
 // A byte as a number of 64 bits.

@@ -1,4 +1,6 @@
 // Entries and parents as single numbers of the room: put together by `+ *`, taken apart by `/ %`.
+#![tactic(auto)]
+
 ghost use Rattle.std.specs.Prelude.{◌≡◌};
 ghost use Rattle.packed.specs.Packed.{IsPart, packed, low, middle, high, entry_of, parent_of};
 

@@ -1,4 +1,6 @@
 // A set as one word: bit t is number t. Sets in several words are defined in specs/Bits.antt.
+#![tactic(auto)]
+
 ghost use Rattle.std.specs.Prelude.{◌≡◌, ◌+◌};
 ghost use Rattle.rules.specs.Tokens.{has, single, join, disjoint, within, without, all};
 ghost use Rattle.words.specs.Bits.{IsBit};
