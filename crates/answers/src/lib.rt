@@ -1,4 +1,6 @@
 // What document 01 says of every answer: a refusal's number and place, the counts of a table, the steps and the list length of a run.
+#![tactic(auto)]
+
 ghost use Rattle.std.specs.Prelude.{◌≡◌};
 ghost use Rattle.rules.specs.Answers.{grammar_refusal_said, grammar_said, build_refusal_said, build_said, run_end_said, drive_said};
 ghost use Rattle.answers.specs.Meant.{meant};

@@ -1,4 +1,6 @@
 // Columns: token sets that lie side by side in slots, as those of a row of the lane table do: context_set/mod.rs.
+#![tactic(auto)]
+
 ghost use Rattle.std.specs.Prelude.{◌≡◌, ◌+◌, ◌≤◌, ◌<◌, replicate};
 ghost use Rattle.base.specs.Lists.{each_of};
 ghost use Rattle.rules.specs.Tokens.{disjoint};

@@ -1,4 +1,6 @@
 // Which bytes are a coded grammar: refusals 3 to 8.
+#![tactic(auto)]
+
 mod faults;
 mod naming;
 

@@ -1,4 +1,6 @@
 // Token sets by slot of the work room: lookahead.rs. A caller names slots and tokens, and never sees how a set is kept.
+#![tactic(auto)]
+
 ghost use Rattle.std.specs.Prelude.{◌≡◌, not, ◌≤◌, eqb};
 ghost use Rattle.rules.specs.Tokens.{single, disjoint, within, eof, all};
 ghost use Rattle.room.specs.Areas.{view};

@@ -1,4 +1,6 @@
 // Sets of states and of items, bit by bit in the work room. A caller names states and items, and never sees in which word a bit lies.
+#![tactic(auto)]
+
 ghost use Rattle.std.specs.Prelude.{◌≡◌, ◌%◌};
 ghost use Rattle.rules.specs.Tokens.{has};
 ghost use Rattle.words.specs.Bits.{word_bits};

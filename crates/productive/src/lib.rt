@@ -1,5 +1,7 @@
 // Refusal 8: a nonterminal derives no string of terminals. The nonterminals that derive one are kept as the bits of one number and
 // collected in rounds over the productions. The grammar has passed refusals 4 and 5, so that each nonterminal is below 64.
+#![tactic(auto)]
+
 ghost use Rattle.std.specs.Prelude.{◌≡◌, ◌<◌};
 ghost use Rattle.base.specs.Lists.{fold_over};
 ghost use Rattle.rules.specs.Limits.{max_nonterminals};

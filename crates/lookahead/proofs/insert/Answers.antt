@@ -1,0 +1,8 @@
+-- `lookahead::insert` meets its contract.
+use Rattle.lookahead.proofs.insert.Goals as goal
+
+pub returns-clause-work_after : goal.returns-clause-work_after
+returns-clause-work_after c = rw (← c.load-a.ensures, ← c.single-word.ensures, ← c.word-join.ensures) c.store.ensures
+
+pub returns-clause-value : goal.returns-clause-value
+returns-clause-value c = rw (← c.load-a.ensures, c.word-has.ensures)
