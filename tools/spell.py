@@ -17,7 +17,7 @@ IMPORT = re.compile(r"\buse ([^\s;{]+)\.\{([^}]*)\}")
 MADE = re.compile(r"(Inv|Need|invariant|decreases)-")
 LINE = re.compile(r"(?m)^(.*?)((?:(?<!\S)--(?!\S).*)?)$")
 LEMMAS = ("bit-and", "bit-or", "entry_closes", "item_count")
-CODE = re.compile(r"ghost use [^;]*;|(?:requires|ensures)(?: \w+)? \{[^\n]*|^ {8,}[^\n]*\}$|using\([^)]*\)|unfolding\([^)]*\)", re.M)
+CODE = re.compile(r"ghost use [^;]*;|(?:requires|ensures)(?: \w+)? \{(?:[^{}]|\{[^{}]*\})*\}|using\([^)]*\)|unfolding\([^)]*\)")
 
 
 def is_camel(word):
@@ -32,7 +32,7 @@ def snake(word):
 
 def files(top, endings):
     for folder, folders, names in os.walk(top):
-        folders[:] = sorted(d for d in folders if d not in ("out", "target", ".git"))
+        folders[:] = sorted(d for d in folders if d not in ("out", ".git"))
         for name in sorted(names):
             if name.endswith(endings):
                 yield os.path.join(folder, name)

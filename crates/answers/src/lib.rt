@@ -23,6 +23,7 @@ pub enum Said {
 }
 
 // Of bytes that are no coded grammar.
+#[tactic(auto, unfolding(rules::specs::Answers::grammar_refusal_said))]
 pub fn grammar_refusal_said(why: GrammarRefusal) -> Said
     ensures { grammar_refusal_said why ≡ meant result }
 {
@@ -37,6 +38,7 @@ pub fn grammar_refusal_said(why: GrammarRefusal) -> Said
 }
 
 // Of the check of a grammar's bytes.
+#[tactic(auto, unfolding(rules::specs::Answers::grammar_said))]
 pub fn grammar_said(answer: GrammarAnswer) -> Said
     ensures { grammar_said answer ≡ meant result }
 {
@@ -47,6 +49,7 @@ pub fn grammar_said(answer: GrammarAnswer) -> Said
 }
 
 // Of a table that is not built.
+#[tactic(auto, unfolding(rules::specs::Answers::build_refusal_said))]
 pub fn build_refusal_said(why: BuildRefusal) -> Said
     ensures { build_refusal_said why ≡ meant result }
 {
@@ -64,6 +67,7 @@ pub fn build_refusal_said(why: BuildRefusal) -> Said
 }
 
 // Of the builder.
+#[tactic(auto, unfolding(rules::specs::Answers::build_said))]
 pub fn build_said(answer: BuildAnswer) -> Said
     ensures { build_said answer ≡ meant result }
 {
@@ -74,6 +78,7 @@ pub fn build_said(answer: BuildAnswer) -> Said
 }
 
 // Of a run that ended so.
+#[tactic(auto, unfolding(rules::specs::Answers::run_end_said))]
 pub fn run_end_said(end: RunEnd, place: usize, steps: usize, listed: usize) -> Said
     ensures { run_end_said end place steps listed ≡ meant result }
 {
@@ -88,6 +93,7 @@ pub fn run_end_said(end: RunEnd, place: usize, steps: usize, listed: usize) -> S
 }
 
 // Of the driver.
+#[tactic(auto, unfolding(rules::specs::Answers::drive_said))]
 pub fn drive_said(answer: DriveAnswer) -> Said
     ensures { drive_said answer ≡ meant result }
 {

@@ -134,7 +134,7 @@ fn move_reduce(
 ) -> Moved
     requires { Faultless g.now × Ascends t.now × Moveable stack.old s }
     ensures { moved stack.new list.new result
-        ≡ moveReduce (tableIn (tableRecords t.now)) (records g.now) tokens.now p
+        ≡ move_reduce (table_in (table_records t.now)) (records g.now) tokens.now p
         (standing stack.old list.old s) }
 {
     let production = p as usize;
@@ -170,7 +170,7 @@ pub fn step(
 ) -> Moved
     requires { Runnable g.now t.now n × Stands limit stack.old s }
     ensures { moved stack.new list.new result
-        ≡ move (tableIn (tableRecords t.now)) (records g.now) tokens.now limit
+        ≡ move (table_in (table_records t.now)) (records g.now) tokens.now limit
         (standing stack.old list.old s) }
 {
     let token = token_at(tokens, n, s.place);

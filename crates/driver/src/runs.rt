@@ -78,7 +78,7 @@ pub fn run(
 ) -> RunAnswer
     requires { Faultless g.now × Ascends t.now }
     ensures { ran_in result stack.new list.new
-        ≡ run (tableIn (tableRecords t.now)) (records g.now)
+        ≡ run (table_in (table_records t.now)) (records g.now)
         tokens.now limit stack.old list.old }
 {
     if stack.len() == 0 {

@@ -3,7 +3,7 @@
 ghost use Rattle.std.specs.Prelude.{◌≡◌, false, not, ◌+◌, ◌<◌, length};
 ghost use Rattle.rules.specs.Records.{records};
 ghost use Rattle.rules.specs.Grammar.{at_end, terminal_count};
-ghost use Rattle.rules.specs.States.{closes as closesOf};
+ghost use Rattle.rules.specs.States.{closes as closes_of};
 ghost use Rattle.rules.specs.FinalCheck.{moves as moves_of};
 ghost use Rattle.grammar.specs.Asked.{Faultless};
 ghost use Rattle.room.specs.Areas.{view};
@@ -35,7 +35,7 @@ pub fn moves(g: &[u8], at: usize, work: &[u64]) -> bool
 // The entry at a place has a least set, and a nonterminal behind its dot.
 pub fn closes(g: &[u8], at: usize, work: &[u64]) -> bool
     requires { LongEnough work.now × IsEntry at × ((entry_in (view work.now) at).item < length (records g.now)) }
-    ensures { result ≡ closesOf (records g.now) (least_entry (view work.now) at).item (least_entry (view work.now) at).set }
+    ensures { result ≡ closes_of (records g.now) (least_entry (view work.now) at).item (least_entry (view work.now) at).set }
 {
     if !moves(g, at, work) {
         return false;

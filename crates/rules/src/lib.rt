@@ -1,16 +1,17 @@
 // What the calls of Splicepost answer: the enums and structs that definitions and code share.
 // specs/Answers.antt gives the number and the place that document 01 has for each.
+#![tactic(auto)]
 
 // The number of a state.
-#[derive(Drop)]
+#[derive(Clone, Copy)]
 pub struct StateIndex(pub usize);
 
 // The number of a column of a lane table.
-#[derive(Drop)]
+#[derive(Clone, Copy)]
 pub struct ConflictIndex(pub usize);
 
 // Why bytes are no coded grammar.
-#[derive(Drop)]
+#[derive(Clone, Copy)]
 pub enum GrammarRefusal {
     Length,
     BadRecord(usize),
@@ -21,14 +22,14 @@ pub enum GrammarRefusal {
 }
 
 // What the check of a grammar's bytes answers.
-#[derive(Drop)]
+#[derive(Clone, Copy)]
 pub enum GrammarAnswer {
     Coded,
     Refused(GrammarRefusal),
 }
 
 // Why the builder gives no table.
-#[derive(Drop)]
+#[derive(Clone, Copy)]
 pub enum BuildRefusal {
     Mode,
     WorkRoom,
@@ -42,14 +43,14 @@ pub enum BuildRefusal {
 }
 
 // What the builder answers: the counts of states and records, or the refusal.
-#[derive(Drop)]
+#[derive(Clone, Copy)]
 pub enum BuildAnswer {
     Built(usize, usize),
     NotBuilt(BuildRefusal),
 }
 
 // How a run of the driver ends.
-#[derive(Drop)]
+#[derive(Clone, Copy)]
 pub enum RunEnd {
     Accepted,
     Rejected,
@@ -60,7 +61,7 @@ pub enum RunEnd {
 }
 
 // A run's end, the token at which it came, the moves made and the productions listed.
-#[derive(Drop)]
+#[derive(Clone, Copy)]
 pub struct RunAnswer {
     pub end: RunEnd,
     pub place: usize,
@@ -69,7 +70,7 @@ pub struct RunAnswer {
 }
 
 // What the driver answers.
-#[derive(Drop)]
+#[derive(Clone, Copy)]
 pub enum DriveAnswer {
     NoGrammar(GrammarRefusal),
     NoTable(usize),

@@ -2,4 +2,4 @@
 use Rattle.lookahead.proofs.put_all.Goals as goal
 
 pub returns : goal.returns
-returns c = rw (← c.all-word.ensures) c.store.ensures
+returns c = rw (← c.all_word-s.ensures) c.store.ensures

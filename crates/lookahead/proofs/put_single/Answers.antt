@@ -2,4 +2,4 @@
 use Rattle.lookahead.proofs.put_single.Goals as goal
 
 pub returns : goal.returns
-returns c = rw (← c.single-word.ensures) c.store.ensures
+returns c = rw (← c.single_word-s.ensures) c.store.ensures

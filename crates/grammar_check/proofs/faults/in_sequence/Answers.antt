@@ -13,4 +13,4 @@ returns-then-i-eq0 c = search (tests, ← c.production.ensures.0)
 
 pub returns : goal.returns
 unfolding in_sequence
-returns c = search (tests, ← c.comes-behind.ensures)
+returns c = search (tests, ← c.comes_behind.ensures)

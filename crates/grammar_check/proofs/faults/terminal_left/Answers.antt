@@ -5,7 +5,7 @@ use Rattle.grammar_check.proofs.faults.terminal_left.Goals as goal
 
 pub returns-then-position-eq0 : goal.returns-then-position-eq0
 unfolding terminal_left
-returns-then-position-eq0 c = search (tests, ← c.is-terminal.ensures, ← c.position.ensures.0)
+returns-then-position-eq0 c = search (tests, ← c.is_terminal.ensures, ← c.position.ensures.0)
 
 pub returns : goal.returns
 unfolding terminal_left
