@@ -18,6 +18,7 @@ module _ (Rule : ℕ → ℕ → List Symbol → Type 0) where
 
   pub null_cut : (φ : List Symbol) {ψ : List Symbol} → Null Rule (φ ++ ψ) → Null Rule φ × Null Rule ψ
   null_cut [] h = (null, h)
+  null_cut (terminal _ ∷ φ) h = elim h [ ]
   null_cut (nonterminal A ∷ φ) (null_nonterminal r h k) = let (h₁, h₂) = null_cut φ k in (null_nonterminal r h h₁, h₂)
 
   pub begins_front : {t : ℕ} {φ : List Symbol} (ψ : List Symbol) → Begins Rule t φ → Begins Rule t (φ ++ ψ)
@@ -65,7 +66,7 @@ module _ (Rule : ℕ → ℕ → List Symbol → Type 0) where
   first_behind_null null f = f
   first_behind_null (null_nonterminal r h k) f = expand r (first_behind_null h (first_behind_null k f))
 
-  first_of_begins : {φ : List Symbol} {t : ℕ} (ψ : List Symbol) (b : ℕ) → Begins Rule t φ → First Rule (φ ++ ψ) b t
+  first_of_begins : {t : ℕ} {φ : List Symbol} (ψ : List Symbol) (b : ℕ) → Begins Rule t φ → First Rule (φ ++ ψ) b t
   first_of_begins ψ b token = now
   first_of_begins ψ b (inside {φ} r c) = expand r (first_of_begins (φ ++ ψ) b c)
   first_of_begins ψ b (beyond r h c) = expand r (first_behind_null h (first_of_begins ψ b c))
@@ -76,9 +77,11 @@ module _ (Rule : ℕ → ℕ → List Symbol → Type 0) where
 
   -- ---- before tokens, and with an expansion taken back
   begins_tokens : {t : ℕ} (b : ℕ) (v : List ℕ) → Begins Rule t (tokens v) → t ≡ next b v
+  begins_tokens b [] h = elim h [ ]
   begins_tokens b (t ∷ v) token = refl
 
   null_tokens : (b : ℕ) (v : List ℕ) → Null Rule (tokens v) → b ≡ next b v
+  null_tokens b (_ ∷ _) h = elim h [ ]
   null_tokens b [] null = refl
 
   pub first_before_tokens : (φ : List Symbol) (v : List ℕ) {b t : ℕ} → First Rule (φ ++ tokens v) b t → First Rule φ (next b v) t

@@ -33,6 +33,7 @@ module _ (Rule : ℕ → ℕ → List Symbol → Type 0) where
       (κ ++ ψ₁, ψ₂, ap (λ ψ. κ ++ ψ) e ∙ sym (append_assoc κ ψ₁ ψ₂), grows r y a, b)
 
   no_branch_of_tokens : (w : List ℕ) {ψ : List Symbol} {n p : ℕ} → LeftmostBranch Rule (tokens w) ψ n p → ⊥
+  no_branch_of_tokens [] h = elim h [ ]
   no_branch_of_tokens (t ∷ w) (further b) = no_branch_of_tokens w b
 
   cut_branch : (φ : List Symbol) (w : List ℕ) {ψ : List Symbol} {n p : ℕ} → LeftmostBranch Rule (φ ++ tokens w) ψ n p

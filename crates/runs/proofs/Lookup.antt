@@ -38,6 +38,7 @@ module _ (s kind y : ℕ) where
   -- nothing that is there is missed
   for_none : (rs : List TableRecord) {r : TableRecord} → Among r rs → is_for s kind y r ≡ true → target_of rs s kind y ≡ none → ⊥
   unfolding target_of
+  for_none [] m h e = elim m [ ]
   for_none (q ∷ rs) {r} m h e = go (is_for s kind y q) refl e (among_cons m) (λ k e'. for_none rs k h e')
     where
       go : (b : Bool) → is_for s kind y q ≡ b → pick b (some q.target) (target_of rs s kind y) ≡ none → (r ≡ q) ⊎ Among r rs

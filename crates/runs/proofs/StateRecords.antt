@@ -25,6 +25,7 @@ concat_among f (x ∷ xs) m = ⊎_elim (λ k. (x, here, k)) (λ k. let (z, i, j)
 
 among_concat : {A B : Type 0} (f : A → List B) {x : A} {y : B} (xs : List A) → Among x xs → Among y (f x) → Among y (concat (map f xs))
 unfolding concat
+among_concat f [] h k = elim h [ ]
 among_concat f (x ∷ xs) here k = append_left _ k
 among_concat f (z ∷ xs) (later m) k = append_right (f z) (among_concat f xs m k)
 
@@ -42,6 +43,7 @@ transition_among s kind y (e ∷ es) m = ⊎_elim (λ q. (e, here, q)) (λ k. ab
 
 among_transition : (s kind y : ℕ) {e : Entry} (es : List Entry) → Among e es → (f : Entry) × Among (table_record s kind y f.next) (transition_over s kind y es)
 unfolding transition_over
+among_transition s kind y [] m = elim m [ ]
 among_transition s kind y (e ∷ es) m = (e, here)
 
 module _ (g : Grammar) (s : ℕ) (state : State) where
