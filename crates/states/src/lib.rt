@@ -1,5 +1,7 @@
 // The states in the work room: core/mod.rs, State and Item. The entries of a state are the places from `first_entry` to `end_entry`;
 // the token set of the entry at place k lies in the slot `room::slots::entry_slot(k)`.
+#![tactic(auto)]
+
 ghost use Rattle.std.specs.Prelude.{◌≡◌, ◌+◌, ◌≤◌};
 ghost use Rattle.room.specs.Areas.{view};
 ghost use Rattle.room.specs.Bounds.{LongEnough, IsState, IsStateOrEnd, IsEntry, IsItem, IsSlot};
