@@ -1,4 +1,6 @@
 // Clones of states, and the links to them: merge.rs.
+#![tactic(auto)]
+
 ghost use Rattle.std.specs.Prelude.{◌≡◌, ◌+◌, ◌≤◌, ◌<◌, length};
 ghost use Rattle.rules.specs.Limits.{max_entries};
 ghost use Rattle.rules.specs.Records.{records};

@@ -1,5 +1,7 @@
 // The conflict count: lookahead.rs, conflicts. Each reduction is held against the terminals that its state shifts, and against the
 // reductions behind it. `first` and `end` are the places of a state's entries.
+#![tactic(auto)]
+
 ghost use Rattle.std.specs.Prelude.{◌≡◌, ◌≤◌, ◌<◌, length};
 ghost use Rattle.base.specs.Pick.{pick};
 ghost use Rattle.rules.specs.Limits.{max_entries};

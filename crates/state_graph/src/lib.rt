@@ -1,5 +1,7 @@
 // The state graph: state_graph.rs. It is made once for each lane table: bit p of the links of state s says that an entry of state p leads
 // to s. Who asks for the predecessors of a state looks only into the states that link to it.
+#![tactic(auto)]
+
 ghost use Rattle.std.specs.Prelude.{◌≡◌, ◌≤◌, ◌<◌, length};
 ghost use Rattle.base.specs.Lists.{some_of};
 ghost use Rattle.rules.specs.Limits.{max_states};
