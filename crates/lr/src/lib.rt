@@ -1,4 +1,6 @@
 // The states of the two constructions: kernel_set.rs, core/mod.rs and build/mod.rs.
+#![tactic(auto)]
+
 use rules::BuildRefusal;
 
 pub mod append;
