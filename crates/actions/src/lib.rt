@@ -1,4 +1,6 @@
 // The actions of a state that are in any conflict: lane_table/mod.rs, conflicting_actions. `first` and `end` are the places of its entries.
+#![tactic(auto)]
+
 ghost use Rattle.std.specs.Prelude.{◌≡◌, ◌≤◌, ◌<◌};
 ghost use Rattle.rules.specs.Records.{records};
 ghost use Rattle.rules.specs.Grammar.{terminal_count};

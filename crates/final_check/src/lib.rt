@@ -1,4 +1,6 @@
 // The final check of lane mode: the lowest state where a reduction lacks a token of its least set, or that has a conflict.
+#![tactic(auto)]
+
 ghost use Rattle.std.specs.Prelude.{◌≡◌, ◌≤◌, ◌<◌};
 ghost use Rattle.rules.specs.Records.{records};
 ghost use Rattle.rules.specs.Grammar.{terminal_count};

@@ -1,4 +1,6 @@
 // Groups of states: state_set.rs. Each state has the number of its group's head; the columns of a group are its members' rows, joined.
+#![tactic(auto)]
+
 ghost use Rattle.std.specs.Prelude.{◌≡◌, ◌+◌, ◌≤◌, ◌<◌};
 ghost use Rattle.rules.specs.Limits.{max_states, max_columns};
 ghost use Rattle.rules.specs.Merge.{can_join};

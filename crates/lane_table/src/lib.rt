@@ -1,4 +1,6 @@
 // The lane table: table/mod.rs. It lies in the work room.
+#![tactic(auto)]
+
 pub mod action;
 pub mod build;
 pub mod clear;

@@ -1,4 +1,6 @@
 // What the reductions of a state take: context_set/mod.rs, apply. The actions lie in their area, and the column of each in a slot.
+#![tactic(auto)]
+
 ghost use Rattle.std.specs.Prelude.{◌≡◌, ◌+◌, ◌≤◌};
 ghost use Rattle.base.specs.Lists.{place_of};
 ghost use Rattle.rules.specs.Limits.{max_columns};

@@ -1,0 +1,10 @@
+-- `lane_table::clear::clear_rows` meets its contract. The loop's invariant: the rows before row s are empty. The measure is what is left of them.
+use Prim.Native.Nat.{◌≤◌}
+use mathlib.Core.Path.{◌≡◌}
+use lib.ListN.{length}
+use Rattle.room.specs.Areas.{view}
+use Rattle.lane_table.specs.Clears.{RowsCleared}
+use Rattle.lane_table.proofs.clear.clear_rows.Given as goal
+
+abbrev pub invariant-loop-s : goal.invariant-loop-s
+invariant-loop-s l = (l.s ≤ l.count) × (length l.work ≡ length l.initial.work) × RowsCleared l.width l.s (view l.initial.work) (view l.work)
