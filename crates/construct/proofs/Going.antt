@@ -11,7 +11,7 @@ use Rattle.rules.specs.Limits.{limits, max_states}
 use Rattle.rules.specs.Records.{records}
 use Rattle.rules.specs.Tokens.{has}
 use Rattle.rules.specs.States.{Outcome, done, refused, each_in_turn}
-use Rattle.rules.specs.Lanes.{row_of}
+use Rattle.rules.specs.Lanes.{LaneTable, row_of}
 use Rattle.rules.specs.Merge.{Merge, join_successor, successors_of, origin_of, row_of_origin, mark_walked}
 use Rattle.rules.specs.declared.BuildRefusal.{BuildRefusal}
 use Rattle.rules.specs.declared.StateIndex.{StateIndex}
@@ -110,7 +110,7 @@ module _ (bytes : List ℕ) (lanes : Lanes) (s row begun count next : ℕ) (v q 
 
   over : over_successor limits (records bytes) (table_of lanes v) s next (merge_in q count) ≡ gone_on limits (records bytes) (table_of lanes v) (join_successor limits (records bytes) (table_of lanes q) s next (merge_in q count))
   unfolding over_successor
-  over = rw going.same_table
+  over = ap (λ (table : LaneTable). gone_on limits (records bytes) (table_of lanes v) (join_successor limits (records bytes) table s next (merge_in q count))) (sym going.same_table)
 
   -- a successor is joined
   module _ (new : not d ≡ false) (x : Joined) (u : Room) (joins : Joins bytes lanes s next count q x u) where

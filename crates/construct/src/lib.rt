@@ -1,5 +1,7 @@
 // Lane mode: merge.rs. A walk joins each successor of a state, or a clone of it, and goes on there. The number of states grows with each
 // clone, so it is part of the answer.
+#![tactic(auto)]
+
 ghost use Rattle.std.specs.Prelude.{◌≡◌, ◌<◌};
 ghost use Rattle.base.specs.Loops.{first_from};
 ghost use Rattle.room.specs.Areas.{view};

@@ -1,4 +1,6 @@
 // The driver: a run of a table over tokens. Refusals 3 to 8 come first, then 15, then 16, then the run.
+#![tactic(auto)]
+
 pub mod moves;
 pub mod runs;
 

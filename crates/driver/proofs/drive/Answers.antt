@@ -1,0 +1,13 @@
+-- `driver::drive` meets its contract.
+use borrow.Author.Rules.{rules}
+use Rattle.driver.proofs.Driving.{no_grammar, coded_then, known_coded}
+use Rattle.driver.proofs.drive.Goals as goal
+
+pub drive_coded-requires : goal.drive_coded-requires
+drive_coded-requires c = search (rules, known_coded)
+
+pub returns-in-Refused : goal.returns-in-Refused
+returns-in-Refused c = search (rules, no_grammar)
+
+pub returns-in-Coded : goal.returns-in-Coded
+returns-in-Coded c = search (rules, coded_then)
