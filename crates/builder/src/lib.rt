@@ -1,5 +1,7 @@
 // The builder: the whole call. Refusals 1 to 3 come first, then 4 to 8, then 9 to 12 where the construction meets them, then 13, then 14.
 // n and m are the grammar's numbers of terminals and nonterminals.
+#![tactic(auto)]
+
 ghost use Rattle.std.specs.Prelude.{◌≡◌, ◌≤◌};
 ghost use Rattle.rules.specs.Limits.{limits};
 ghost use Rattle.rules.specs.Records.{records};

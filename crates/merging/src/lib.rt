@@ -1,5 +1,7 @@
 // The merge of a visit: merge.rs, and construct/mod.rs, resolve_inconsistencies. The lane table of the visited state lies in the room, and
 // so do its actions.
+#![tactic(auto)]
+
 ghost use Rattle.std.specs.Prelude.{◌≤◌, ◌<◌, ◌≡◌};
 ghost use Rattle.rules.specs.Limits.{max_states};
 ghost use Rattle.room.specs.Areas.{view};

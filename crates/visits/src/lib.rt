@@ -1,4 +1,6 @@
 // The visits of lane mode: construct/mod.rs. States are visited by number, clones included as they appear.
+#![tactic(auto)]
+
 ghost use Rattle.std.specs.Prelude.{◌<◌, ◌≡◌};
 ghost use Rattle.rules.specs.Limits.{limits};
 ghost use Rattle.rules.specs.Records.{records};
