@@ -1,4 +1,6 @@
 // The work room: its areas, the slots of its token sets, and clearing it.
+#![tactic(auto)]
+
 ghost use Rattle.std.specs.Prelude.{◌≡◌};
 ghost use Rattle.rules.specs.Limits.{limits};
 ghost use Rattle.rules.specs.Rooms.{cleared};
