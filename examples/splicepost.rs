@@ -1,4 +1,4 @@
-//! Splicepost for Rust: the two calls over slices. The library is libsplicepost_c.a, which `rt staticlib splicepost_c` makes.
+//! Splicepost for Rust: the two calls over slices. The library is libsplicepost_c.a, which `rt lib` makes in crates/splicepost_c.
 //!
 //! `unsafe` stands here alone. What the calls ask (include/splicepost.h) is what slices are: aligned, as long as they say, and none that
 //! is written to overlaps another.

@@ -1,5 +1,5 @@
-/* Splicepost: LR(1) tables from coded grammars, and runs of tokens over them. Link libsplicepost_c.a, which `rt staticlib splicepost_c`
-   makes in target/staticlib, for x86-64.
+/* Splicepost: LR(1) tables from coded grammars, and runs of tokens over them. Link libsplicepost_c.a, which `rt lib` in
+   crates/splicepost_c makes in its folder out, for x86-64.
 
    Every call takes rooms that the caller lends, a pointer and a length each; lengths count elements, not bytes. It keeps no pointer,
    allocates nothing, and answers every input. What it gives is proved (docs/PROMISES.md) of a caller who passes what the types say:

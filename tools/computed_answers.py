@@ -6,7 +6,7 @@
 GEN SEED COUNT writes jobs (mode, length, coded grammar), ORACLE answers each by a line of JSON: see the oracle's own text. The cases of
 grammars with at most MOST records, whose answers begin with ANSWER and have at least CLONES clones where these are given, become
 theorems `said mode grammar ≡ answer` and `table mode grammar ≡ records`, proved by `refl`, in a crate `computed` of CLONE, a scratch copy
-of this repository; `rt check computed` there computes them. What was made is counted on standard output, by mode and by answer.
+of this repository; `rt check` in its folder computes them. What was made is counted on standard output, by mode and by answer.
 """
 import collections
 import json
@@ -16,18 +16,15 @@ import subprocess
 import sys
 
 HEAD = """-- Answers of the oracle, computed.
-use mathlib.Core.Path.{_≡_, refl}
-use mathlib.Core.List.{List, [], _∷_}
-use Prim.Native.Nat.{ℕ}
-use lib.ListN.{replicate}
-use Rattle·rules.specs.Limits.{limits}
-use Rattle·rules.specs.Answers.{Said, built, refused, buildSaid}
-use Rattle·rules.specs.Build.{build}
-use Rattle·rules.proofs.Coding.{table, s, g, r}
+use Rattle.std.proofs.Common.{ℕ, ◌≡◌, refl, List, [], ◌∷◌, replicate}
+use Rattle.rules.specs.Limits.{limits}
+use Rattle.rules.specs.Answers.{Said, built, refused, build_said}
+use Rattle.rules.specs.Build.{build}
+use Rattle.rules.proofs.Coding.{table, s, g, r}
 
 unfoldable said : ℕ → List ℕ → Said
-unfolding build buildSaid limits
-said mode bytes = buildSaid (build limits mode bytes (replicate 65536 0) (replicate 8192 0) .answer)
+unfolding build build_said limits
+said mode bytes = build_said (build limits mode bytes (replicate 65536 0) (replicate 8192 0)).answer
 """
 
 

@@ -4,9 +4,11 @@
 //
 // A case is one byte, the length of its name; the name; one byte, the mode; two bytes, the numbers of the work room; three bytes, the
 // bytes of the table room; two bytes, the length of the grammar; the grammar. Numbers are little-endian.
-ghost use Rattle.std.specs.Prelude.{◌≡◌, ◌+◌, ◌≤◌, ◌<◌, length};
+#![tactic(auto)]
 
-use libc::{STDIN_FILENO, STDOUT_FILENO};
+ghost use Rattle.std.specs.Prelude.{◌≡◌, ◌+◌, ◌≤◌, ◌<◌, length, IfOk};
+
+use std::io;
 
 // The most that a case can lend, and what lies in the rooms before the call: no byte of a record and no number that is zero.
 const WORK_ROOM: usize = 65535;
@@ -54,17 +56,17 @@ fn changed(work: &[u64], from: usize) -> bool {
 }
 
 // Writes what was left in the rooms.
-fn write_rooms(table: &[u8], work: &[u64]) {
-    io::write_all(STDOUT_FILENO, b"  table room: ");
-    io::print_decimal(STDOUT_FILENO, written(table) as u64);
-    io::write_all(STDOUT_FILENO, b" bytes written; work room: ");
+fn write_rooms(to: &impl Print, table: &[u8], work: &[u64]) -> io::Result<()> {
+    to.write_all(b"  table room: ")?;
+    to.print(written(table))?;
+    to.write_all(b" bytes written; work room: ")?;
     let count = zeros(work);
-    io::print_decimal(STDOUT_FILENO, count as u64);
-    io::write_all(STDOUT_FILENO, b" numbers zero");
+    to.print(count)?;
+    to.write_all(b" numbers zero")?;
     if changed(work, count) {
-        io::write_all(STDOUT_FILENO, b", changed behind them");
+        to.write_all(b", changed behind them")?;
     }
-    io::write_all(STDOUT_FILENO, b"\n");
+    to.write_all(b"\n")
 }
 
 // The room for a table before the call.
@@ -82,30 +84,41 @@ fn work_room() -> [u64; WORK_ROOM]
 }
 
 // Runs the builder in these rooms and writes the lines of the case behind its name.
-fn run_in_rooms(mode: u64, grammar: &[u8], table: &mut [u8], work: &mut [u64]) {
+fn run_in_rooms(
+    to: &impl Print,
+    mode: u64,
+    grammar: &[u8],
+    table: &mut [u8],
+    work: &mut [u64],
+) -> io::Result<()> {
     let answer = builder::build(mode, grammar, table, work);
-    text::write_said(STDOUT_FILENO, answers::build_said(answer));
-    write_rooms(table, work);
+    text::write_said(to, answers::build_said(answer))?;
+    write_rooms(to, table, work)
 }
 
 // The same in rooms of these lengths.
-fn run(mode: u64, grammar: &[u8], table_size: usize, work_size: usize) {
+fn run(
+    to: &impl Print,
+    mode: u64,
+    grammar: &[u8],
+    table_size: usize,
+    work_size: usize,
+) -> io::Result<()> {
     if TABLE_ROOM < table_size {
-        io::write_all(STDOUT_FILENO, b"more table room than there is\n");
-        return;
+        return to.write_all(b"more table room than there is\n");
     }
     if WORK_ROOM < work_size {
-        io::write_all(STDOUT_FILENO, b"more work room than there is\n");
-        return;
+        return to.write_all(b"more work room than there is\n");
     }
     let mut table = table_room();
     let mut work = work_room();
     run_in_rooms(
+        to,
         mode,
         grammar,
         &mut table[0..table_size],
         &mut work[0..work_size],
-    );
+    )
 }
 
 // The number of two bytes from a place on.
@@ -117,58 +130,61 @@ fn number(cases: &[u8], at: usize) -> usize
 }
 
 // Runs the builder on the grammar, in the mode and in rooms of the lengths that stand from a place on.
-fn run_described(cases: &[u8], at: usize, grammar: &[u8])
+fn run_described(to: &impl Print, cases: &[u8], at: usize, grammar: &[u8]) -> io::Result<()>
     requires { at + 6 ≤ length cases.now }
 {
     let mode = base::wide(cases[at]);
     let work_size = number(cases, at + 1);
     let table_size = number(cases, at + 3) + 65536 * base::wide(cases[at + 5]) as usize;
-    run(mode, grammar, table_size, work_size);
+    run(to, mode, grammar, table_size, work_size)
 }
 
 // Says that the input ends within a case; the list's end.
-fn cut_short(cases: &[u8]) -> usize
-    ensures { result ≡ length cases.now }
+fn cut_short(to: &impl Print, cases: &[u8]) -> io::Result<usize>
+    ensures { IfOk result (λ end. end ≡ length cases.now) }
 {
-    io::write_all(STDOUT_FILENO, b"cut short\n");
-    cases.len()
+    to.write_all(b"cut short\n")?;
+    Ok(cases.len())
 }
 
 // Runs the case that begins at a byte and gives the place of the next; the list's end if the case is cut short.
-fn run_case(cases: &[u8], at: usize) -> usize
+fn run_case(to: &impl Print, cases: &[u8], at: usize) -> io::Result<usize>
     requires { at < length cases.now }
-    ensures { (at < result) × (result ≤ length cases.now) }
+    ensures { IfOk result (λ next. (at < next) × (next ≤ length cases.now)) }
 {
     let name = at + 1;
     let rooms = name + base::wide(cases[at]) as usize;
     if cases.len() < rooms + 8 {
-        return cut_short(cases);
+        return cut_short(to, cases);
     }
     let grammar = rooms + 8;
     let next = grammar + number(cases, rooms + 6);
     if cases.len() < next {
-        return cut_short(cases);
+        return cut_short(to, cases);
     }
-    io::write_all(STDOUT_FILENO, &cases[name..rooms]);
-    io::write_all(STDOUT_FILENO, b": ");
-    run_described(cases, rooms, &cases[grammar..next]);
-    next
+    to.write_all(&cases[name..rooms])?;
+    to.write_all(b": ")?;
+    run_described(to, cases, rooms, &cases[grammar..next])?;
+    Ok(next)
 }
 
-fn run_cases(cases: &[u8]) {
+fn run_cases(to: &impl Print, cases: &[u8]) -> io::Result<()> {
     let mut at = 0;
     while at < cases.len() {
-        at = run_case(cases, at);
+        at = run_case(to, cases, at)?;
     }
+    Ok(())
 }
 
 // The cases are read at once, 65,536 bytes of them at most; more than that is not run, and said to be left over.
-fn main() {
-    let mut space = io::large_buffer();
-    let n = io::read_full(STDIN_FILENO, &mut space);
-    run_cases(&space[..n]);
-    let mut rest = io::buffer();
-    if 0 < io::read_full(STDIN_FILENO, &mut rest) {
-        io::write_all(STDOUT_FILENO, b"input left over\n");
+fn main(rt: HostRuntime) -> io::Result<()> {
+    let mut space = [0u8; 65536];
+    let file = input::files::read(&mut rt.stdin(), &mut space);
+    file.readable?;
+    let n = file.size;
+    run_cases(&rt, &space[..n])?;
+    if file.longer {
+        rt.write_all(b"input left over\n")?;
     }
+    Ok(())
 }

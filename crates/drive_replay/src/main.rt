@@ -1,11 +1,13 @@
 // Replays cases of the driver from standard input and holds the driver to each: number, place, steps and list length of the answer, and
 // every cell of stack and list after the call. It writes how many cases have which answer, the first cases that differ, and how many do.
 // tools/driver_cases.py makes the cases and the lines that are expected, and says how a list of cases lies in bytes.
-ghost use Rattle.std.specs.Prelude.{◌≡◌, ◌<◌, ◌≤◌, length};
+#![tactic(auto)]
+
+ghost use Rattle.std.specs.Prelude.{◌≡◌, ◌<◌, ◌≤◌, length, IfOk};
 ghost use Rattle.drive_replay.specs.Cases.{four_bytes, max_room, Within, IsCase};
 
 use answers::Said;
-use libc::{STDIN_FILENO, STDOUT_FILENO};
+use std::io;
 
 // The most cells that a case lends for its stack or list.
 const ROOM: usize = 1024;
@@ -213,31 +215,37 @@ fn count(counts: &mut [u64; 24], place: usize) {
 }
 
 // Counts a case that differs, and names it if it is one of the first ten.
-fn count_different(counts: &mut [u64; 24]) {
+fn count_different(to: &impl Print, counts: &mut [u64; 24]) -> io::Result<()> {
     count(counts, DIFFER);
     if counts[DIFFER] <= 10 {
-        io::write_all(STDOUT_FILENO, b"case ");
-        io::print_decimal(STDOUT_FILENO, counts[CASES]);
-        io::write_all(STDOUT_FILENO, b" differs\n");
+        to.write_all(b"case ")?;
+        to.print(counts[CASES])?;
+        to.write_all(b" differs\n")?;
     }
+    Ok(())
 }
 
 // Replays and counts the case that begins at a byte and gives the place of the next; the list's end if the case is cut short.
-fn replay_case(cases: &[u8], at: usize, counts: &mut [u64; 24]) -> usize
+fn replay_case(
+    to: &impl Print,
+    cases: &[u8],
+    at: usize,
+    counts: &mut [u64; 24],
+) -> io::Result<usize>
     requires { at < length cases.now }
-    ensures { (at < result) × (result ≤ length cases.now) }
+    ensures { IfOk result (λ next. (at < next) × (next ≤ length cases.now)) }
 {
     count(counts, CASES);
     if cases.len() - at < HEAD {
-        count_different(counts);
-        return cases.len();
+        count_different(to, counts)?;
+        return Ok(cases.len());
     }
     let states = at + HEAD;
     let listed = number(cases, at + 52) as usize;
     let put = number(cases, at + 56) as usize;
     if cases.len() - states < put + listed {
-        count_different(counts);
-        return cases.len();
+        count_different(to, counts)?;
+        return Ok(cases.len());
     }
     let productions = states + put;
     let next = productions + listed;
@@ -248,50 +256,52 @@ fn replay_case(cases: &[u8], at: usize, counts: &mut [u64; 24]) -> usize
         &cases[states..productions],
         &cases[productions..next],
     ) {
-        count_different(counts);
+        count_different(to, counts)?;
     }
-    next
+    Ok(next)
 }
 
 // Replays all cases: they stand behind the bytes that they share.
-fn replay_all(cases: &[u8], counts: &mut [u64; 24]) {
+fn replay_all(to: &impl Print, cases: &[u8], counts: &mut [u64; 24]) -> io::Result<()> {
     if cases.len() < 4 {
-        return;
+        return Ok(());
     }
     let mut at = 4 + number(cases, 0) as usize;
     while at < cases.len() {
-        at = replay_case(cases, at, counts);
+        at = replay_case(to, cases, at, counts)?;
     }
+    Ok(())
 }
 
 // Writes how many cases are refused with a number.
-fn write_refused(number: usize, count: u64) {
-    io::write_all(STDOUT_FILENO, b"refused ");
-    io::print_decimal(STDOUT_FILENO, number as u64);
-    io::write_all(STDOUT_FILENO, b": ");
-    io::print_decimal(STDOUT_FILENO, count);
-    io::write_all(STDOUT_FILENO, b"\n");
+fn write_refused(to: &impl Print, number: usize, count: u64) -> io::Result<()> {
+    to.write_all(b"refused ")?;
+    to.print(number)?;
+    to.write_all(b": ")?;
+    to.print(count)?;
+    to.write_all(b"\n")
 }
 
 // Writes the counts of the refusals from a number on, up to 21 at most.
-fn write_refusals(counts: &[u64; 24], from: usize, to: usize) {
+fn write_refusals(out: &impl Print, counts: &[u64; 24], from: usize, to: usize) -> io::Result<()> {
     for k in from..to {
         if k < CASES {
-            write_refused(k, counts[k]);
+            write_refused(out, k, counts[k])?;
         }
     }
+    Ok(())
 }
 
-fn write_counts(counts: &[u64; 24]) {
-    io::write_all(STDOUT_FILENO, b"accepted: ");
-    io::print_decimal(STDOUT_FILENO, counts[0]);
-    io::write_all(STDOUT_FILENO, b"\n");
-    write_refusals(counts, 3, 9);
-    write_refusals(counts, 15, 22);
-    io::print_decimal(STDOUT_FILENO, counts[CASES]);
-    io::write_all(STDOUT_FILENO, b" cases, ");
-    io::print_decimal(STDOUT_FILENO, counts[DIFFER]);
-    io::write_all(STDOUT_FILENO, b" differ\n");
+fn write_counts(to: &impl Print, counts: &[u64; 24]) -> io::Result<()> {
+    to.write_all(b"accepted: ")?;
+    to.print(counts[0])?;
+    to.write_all(b"\n")?;
+    write_refusals(to, counts, 3, 9)?;
+    write_refusals(to, counts, 15, 22)?;
+    to.print(counts[CASES])?;
+    to.write_all(b" cases, ")?;
+    to.print(counts[DIFFER])?;
+    to.write_all(b" differ\n")
 }
 
 // The room for a list of cases.
@@ -302,14 +312,16 @@ fn space() -> [u8; 655360]
 }
 
 // The cases are read at once, 655,360 bytes of them at most; more than that is not run, and said to be left over.
-fn main() {
+fn main(rt: HostRuntime) -> io::Result<()> {
     let mut space = space();
     let mut counts = [0u64; 24];
-    let size = io::read_full(STDIN_FILENO, &mut space);
-    replay_all(&space[..size], &mut counts);
-    write_counts(&counts);
-    let mut rest = io::buffer();
-    if 0 < io::read_full(STDIN_FILENO, &mut rest) {
-        io::write_all(STDOUT_FILENO, b"input left over\n");
+    let file = input::files::read(&mut rt.stdin(), &mut space);
+    file.readable?;
+    let size = file.size;
+    replay_all(&rt, &space[..size], &mut counts)?;
+    write_counts(&rt, &counts)?;
+    if file.longer {
+        rt.write_all(b"input left over\n")?;
     }
+    Ok(())
 }

@@ -1,5 +1,5 @@
 -- The number that a word of the call says: decimal digits and nothing else, below 2^64. `128` says 128; an empty word, `-1` and `1k` say none.
-use Rattle.std.specs.Prelude.{ℕ, ◌+◌, ◌*◌, ◌-◌, List, [], ◌∷◌, ltb, leb}
+use Rattle.std.specs.Prelude.{ℕ, ◌+◌, ◌*◌, ◌-◌, List, [], ◌∷◌, ltb}
 use Rattle.base.specs.Pick.{pick}
 use Rattle.base.specs.Lists.{fold_over}
 use Rattle.input.specs.declared.numbers.Number.{Number}

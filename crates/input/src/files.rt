@@ -1,36 +1,38 @@
-// What a program reads: the bytes behind a descriptor, into a room that is lent, and whether they could be read.
-ghost use Rattle.io.specs.Counts.{IsPrefixLen};
+// What a program reads: the bytes of a reader, into a room that is lent, and whether they could be read.
+ghost use Rattle.input.specs.Counts.{IsPrefixLen};
 
-// How many bytes were read; whether every read went well; whether there are more than the room holds.
+use std::io;
+use std::io::Read;
+
+// How many bytes were read; whether every read went well, or else why one failed; whether there are more than the room holds.
 #[derive(Drop)]
 pub struct File {
     pub size: usize,
-    pub readable: bool,
+    pub readable: io::Result<()>,
     pub longer: bool,
 }
 
-// That the bytes could not be read into the room.
-pub fn unread(room: &[u8]) -> File
+// That the bytes could not be read into the room, and why.
+pub fn unread(room: &[u8], why: io::Error) -> File
     ensures { IsPrefixLen result.size room.now }
 {
     File {
         size: 0,
-        readable: false,
+        readable: Err(why),
         longer: false,
     }
 }
 
-// Reads until the bytes end or the room is full. Where a read fails errno says why.
-fn fill(from: i32, room: &mut [u8]) -> File
+// Reads until the bytes end or the room is full.
+pub fn fill<R: Read>(from: &mut R, room: &mut [u8]) -> File
     ensures { IsPrefixLen result.size room.new }
 {
     let mut size = 0;
     while size < room.len() {
-        let got = libc::read(from, &mut room[size..]);
-        if got < 0 {
-            return unread(room);
-        }
-        let more = io::count(got, &room[size..]);
+        let more = match from.read(&mut room[size..]) {
+            Ok(more) => more,
+            Err(why) => return unread(room, why),
+        };
         if more == 0 {
             break;
         }
@@ -38,13 +40,13 @@ fn fill(from: i32, room: &mut [u8]) -> File
     }
     File {
         size,
-        readable: true,
+        readable: Ok(()),
         longer: false,
     }
 }
 
-// Reads all bytes behind a descriptor into the room, as far as it holds them. Where a read fails errno says why.
-pub fn read(from: i32, room: &mut [u8]) -> File
+// Reads all bytes of a reader into the room, as far as it holds them.
+pub fn read<R: Read>(from: &mut R, room: &mut [u8]) -> File
     ensures { IsPrefixLen result.size room.new }
 {
     let file = fill(from, room);
@@ -52,13 +54,12 @@ pub fn read(from: i32, room: &mut [u8]) -> File
         return file;
     }
     let mut next = [0u8; 1];
-    let more = libc::read(from, &mut next);
-    if more < 0 {
-        return unread(room);
-    }
-    File {
-        size: file.size,
-        readable: true,
-        longer: 0 < more,
+    match from.read(&mut next) {
+        Ok(more) => File {
+            size: file.size,
+            readable: Ok(()),
+            longer: 0 < more,
+        },
+        Err(why) => unread(room, why),
     }
 }

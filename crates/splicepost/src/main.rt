@@ -4,11 +4,15 @@
 // place. Without a word it builds in lane mode. The word `canonical` asks for canonical mode; the word `bytes` for the bytes of the
 // table instead of the text, and a refusal is then said on standard error. Standard input that cannot be read and standard output that
 // does not take all are said on standard error too: where that is empty, what was printed is whole.
+#![tactic(auto)]
+
 ghost use Rattle.std.specs.Prelude.{◌*◌, ◌≤◌, length};
 ghost use Rattle.text.specs.Tables.{RecordsWithin};
 
-use libc::{STDERR_FILENO, STDIN_FILENO, STDOUT_FILENO};
 use rules::BuildAnswer;
+use std::env::FillError;
+use std::io;
+use std::rt::Env;
 
 // What the words ask for; `unknown` if one of them is no word of the program.
 #[derive(Drop)]
@@ -20,14 +24,14 @@ struct Asked {
 
 // What is asked for, with one more word.
 fn with_word(asked: Asked, word: &[u8]) -> Asked {
-    if check::same(word, b"canonical") {
+    if word == b"canonical".as_slice() {
         return Asked {
             mode: 1,
             bytes: asked.bytes,
             unknown: asked.unknown,
         };
     }
-    if check::same(word, b"bytes") {
+    if word == b"bytes".as_slice() {
         return Asked {
             mode: asked.mode,
             bytes: true,
@@ -42,71 +46,76 @@ fn with_word(asked: Asked, word: &[u8]) -> Asked {
 }
 
 // What the words of the call ask for.
-fn read_words() -> Asked {
-    let count = os::arg_count();
+fn read_words(rt: &impl Env) -> Asked {
     let mut asked = Asked {
         mode: 0,
         bytes: false,
         unknown: false,
     };
-    for i in 1..count {
+    for i in 1..usize::MAX {
         let mut word = [0u8; 16];
-        let size = os::arg(i, &mut word);
+        let size = match rt.arg(i, &mut word) {
+            Ok(size) => size,
+            Err(FillError::TooLong) => 0,
+            Err(FillError::NotPresent) => break,
+        };
         asked = with_word(asked, &word[..size]);
     }
     asked
 }
 
 // Writes the bytes of the first `count` records of a table.
-fn write_records(table: &[u8], count: usize) -> bool
+fn write_records(to: &impl Print, table: &[u8], count: usize) -> io::Result<()>
     requires { 8 * count ≤ length table.now }
 {
     let end = 8 * count;
-    io::write_all(STDOUT_FILENO, &table[0..end])
+    to.write_all(&table[0..end])
 }
 
 // Writes the bytes of the table, or on standard error why there is none.
-fn write_bytes(answer: BuildAnswer, table: &[u8]) -> bool
+fn write_bytes(
+    to: &impl Print,
+    err: &impl Print,
+    answer: BuildAnswer,
+    table: &[u8],
+) -> io::Result<()>
     requires { RecordsWithin answer table.now }
 {
     match answer {
-        BuildAnswer::Built(states, records) => write_records(table, records),
-        BuildAnswer::NotBuilt(why) => text::write_said(
-            STDERR_FILENO,
-            answers::build_refusal_said(why),
-        ),
+        BuildAnswer::Built(states, records) => write_records(to, table, records),
+        BuildAnswer::NotBuilt(why) => text::write_said(err, answers::build_refusal_said(why)),
     }
 }
 
-// Builds the table and writes it as it is asked for; false if not all of it was written.
-fn build_asked(asked: Asked, grammar: &[u8]) -> bool {
-    let mut table = io::large_buffer();
+// Builds the table and writes it as it is asked for; an error if not all of it was written.
+fn build_asked(to: &impl Print, err: &impl Print, asked: Asked, grammar: &[u8]) -> io::Result<()> {
+    let mut table = [0u8; 65536];
     let mut work = [0u64; 8192];
     let answer = builder::build(asked.mode, grammar, &mut table, &mut work);
     if asked.bytes {
-        return write_bytes(answer, &table);
+        return write_bytes(to, err, answer, &table);
     }
-    text::write_built(answer, &table)
+    text::write_built(to, answer, &table)
 }
 
 // Of more than 65,536 bytes these are read: they are too long for a grammar, and refused as the whole would be.
-fn main() {
-    let asked = read_words();
+fn main(rt: HostRuntime) -> io::Result<()> {
+    let err = rt.stderr();
+    let asked = read_words(&rt);
     if asked.unknown {
-        io::write_all(
-            STDERR_FILENO,
+        return err.write_all(
             b"usage: splicepost [canonical] [bytes] < GRAMMAR\nwhat a refusal's number means: docs/REFUSALS.md\n",
         );
-        return;
     }
-    let mut input = io::large_buffer();
-    let file = input::files::read(STDIN_FILENO, &mut input);
-    if !file.readable {
-        os::fail(b"standard input");
-        return;
+    let mut input = [0u8; 65536];
+    let file = input::files::read(&mut rt.stdin(), &mut input);
+    if let Err(why) = file.readable {
+        text::fail(&err, b"standard input", why);
+        return Ok(());
     }
     let size = file.size;
-    if !build_asked(asked, &input[..size]) {
-        os::fail(b"standard output");
+    if let Err(why) = build_asked(&rt, &err, asked, &input[..size]) {
+        text::fail(&err, b"standard output", why);
     }
+    Ok(())
 }

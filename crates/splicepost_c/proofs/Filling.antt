@@ -1,6 +1,6 @@
 -- Three numbers put into the cells of an answer, one after the other, fill its first cells.
 use Prim.Native.Nat.{ℕ}
-use mathlib.Core.Path.{◌≡◌, refl, sym, ap, ◌∙◌}
+use mathlib.Core.Path.{◌≡◌, refl, ap, ◌∙◌}
 use mathlib.Core.List.{List, [], ◌∷◌}
 use lib.ListN.{set}
 use Rattle.splicepost_c.specs.Numbers.{with_numbers}

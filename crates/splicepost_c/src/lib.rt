@@ -1,5 +1,7 @@
 // The library for programs in C and Rust: the builder's and the driver's calls, with their answers in plain numbers.
 // include/splicepost.h declares them; a slice is a pointer and a length there.
+#![tactic(auto)]
+
 ghost use Rattle.std.specs.Prelude.{◌≡◌, [], ◌∷◌, set};
 ghost use Rattle.answers.specs.Meant.{meant};
 ghost use Rattle.splicepost_c.specs.Numbers.{number, numbers, with_numbers};

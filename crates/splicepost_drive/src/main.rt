@@ -5,14 +5,18 @@
 // document 01's number and place, and where the run had begun the steps and the list length too. What is no answer of the driver is
 // said on standard error: how to call the program, a file that cannot be read, a file longer than its room, a table of no bytes, and
 // standard output that does not take all.
+#![tactic(auto)]
+
 ghost use Rattle.std.specs.Prelude.{◌≤◌, ◌≡◌, length};
-ghost use Rattle.io.specs.Counts.{IsPrefixLen};
+ghost use Rattle.input.specs.Counts.{IsPrefixLen};
 ghost use Rattle.splicepost_drive.specs.Rooms.{WithinRooms};
 
 use answers::Said;
 use input::files::File;
 use input::numbers::Number;
-use libc::{STDERR_FILENO, STDOUT_FILENO};
+use std::env::FillError;
+use std::rt::{Env, Files};
+use std::{fs, io};
 
 // Every longer grammar is refused by its length, whatever it holds.
 const GRAMMAR_ROOM: usize = 4104;
@@ -27,6 +31,9 @@ const TOKENS_ROOM: usize = 1000000;
 const STACK_ROOM: usize = 1100000;
 
 const LIST_ROOM: usize = 1500000;
+
+// No longer name of a file is opened.
+const NAME_ROOM: usize = 4096;
 
 // The room for a table.
 fn table_room() -> [u8; TABLE_ROOM]
@@ -56,89 +63,105 @@ fn list_room() -> [u16; LIST_ROOM]
     [0; LIST_ROOM]
 }
 
+// Opens the file with this name. The name is text: the library opens no other.
+fn open_read<R: Files>(rt: &R, name: &[u8]) -> io::Result<R::File> {
+    match std::str::from_utf8(name) {
+        Ok(path) => fs::open(rt, path),
+        Err(_) => Err(io::Error::from(io::ErrorKind::InvalidFilename)),
+    }
+}
+
 // Reads the file with this name into the room.
-fn read_file(name: &[u8], room: &mut [u8]) -> File
+fn read_file(rt: &impl Files, err: &impl Print, name: &[u8], room: &mut [u8]) -> File
     ensures { IsPrefixLen result.size room.new }
 {
-    let from = os::open_read(name);
-    if from < 0 {
-        os::fail(name);
-        return input::files::unread(room);
+    let mut from = match open_read(rt, name) {
+        Ok(from) => from,
+        Err(why) => {
+            text::fail(err, name, why);
+            return input::files::unread(room, why);
+        }
+    };
+    let file = input::files::read(&mut from, room);
+    if let Err(why) = file.readable {
+        text::fail(err, name, why);
     }
-    let file = input::files::read(from, room);
-    if !file.readable {
-        os::fail(name);
-    }
-    libc::close(from);
     file
 }
 
 // Writes a line about a file that is longer than its room.
-fn write_too_long(name: &[u8], room: usize) {
-    io::write_all(STDERR_FILENO, name);
-    io::write_all(STDERR_FILENO, b": longer than ");
-    io::print_decimal(STDERR_FILENO, room as u64);
-    io::write_all(STDERR_FILENO, b" bytes\n");
+fn write_too_long(err: &impl Print, name: &[u8], room: usize) -> io::Result<()> {
+    err.write_all(name)?;
+    err.write_all(b": longer than ")?;
+    err.print(room)?;
+    err.write_all(b" bytes\n")
 }
 
 // Reads the file that argument i names into the room, which may be shorter than the file if `part` says so.
-fn read_argument(i: usize, part: bool, room: &mut [u8]) -> File
+fn read_argument(
+    rt: &(impl Env + Files),
+    err: &impl Print,
+    i: usize,
+    part: bool,
+    room: &mut [u8],
+) -> File
     ensures { IsPrefixLen result.size room.new }
 {
-    let mut name = io::buffer();
-    let length = os::arg(i, &mut name);
-    if os::errno() != 0 {
-        os::fail(b"a file's name");
-        return input::files::unread(room);
-    }
-    let file = read_file(&name[..length], room);
+    let mut name = [0u8; NAME_ROOM];
+    let length = match rt.arg(i, &mut name) {
+        Ok(length) => length,
+        Err(_) => {
+            let why = io::Error::from(io::ErrorKind::InvalidFilename);
+            text::fail(err, b"a file's name", why);
+            return input::files::unread(room, why);
+        }
+    };
+    let file = read_file(rt, err, &name[..length], room);
     if part {
         return file;
     }
     if file.longer {
-        write_too_long(&name[..length], room.len());
-        return input::files::unread(room);
+        let _ = write_too_long(err, &name[..length], room.len());
+        return input::files::unread(room, io::Error::from(io::ErrorKind::FileTooLarge));
     }
     file
 }
 
 // Writes a line about the table file, which argument 2 names, if it has no bytes: it is driven, as every table is, but none is built so.
-fn write_if_empty(size: usize) {
+fn write_if_empty(rt: &impl Env, err: &impl Print, size: usize) {
     if 0 < size {
         return;
     }
-    let mut name = io::buffer();
-    let length = os::arg(2, &mut name);
-    io::write_all(STDERR_FILENO, &name[..length]);
-    io::write_all(STDERR_FILENO, b": an empty file, as no table is\n");
+    let mut name = [0u8; NAME_ROOM];
+    if let Ok(length) = rt.arg(2, &mut name) {
+        let _ = err.write_all(&name[..length]);
+    }
+    let _ = err.write_all(b": an empty file, as no table is\n");
 }
 
 // Writes a line with a production.
-fn write_production(production: u16) -> bool {
-    io::print_decimal(STDOUT_FILENO, production as u64) && io::write_all(STDOUT_FILENO, b"\n")
+fn write_production(to: &impl Print, production: u16) -> io::Result<()> {
+    to.print(production)?;
+    to.write_all(b"\n")
 }
 
-// Writes the first productions of the list, as many as are listed; false if not all were written.
-fn write_productions(list: &[u16], listed: usize) -> bool {
+// Writes the first productions of the list, as many as are listed; an error if not all were written.
+fn write_productions(to: &impl Print, list: &[u16], listed: usize) -> io::Result<()> {
     for i in 0..listed {
         if i < list.len() {
-            if !write_production(list[i]) {
-                return false;
-            }
+            write_production(to, list[i])?;
         }
     }
-    true
+    Ok(())
 }
 
-// Writes what the driver answers, and behind an acceptance the list that it left; false if not all was written.
-fn write_answer(said: Said, list: &[u16]) -> bool {
-    if !text::write_said(STDOUT_FILENO, said) {
-        return false;
-    }
+// Writes what the driver answers, and behind an acceptance the list that it left; an error if not all was written.
+fn write_answer(to: &impl Print, said: Said, list: &[u16]) -> io::Result<()> {
     if let Said::Accepted(steps, listed) = said {
-        return write_productions(list, listed);
+        text::write_said(to, Said::Accepted(steps, listed))?;
+        return write_productions(to, list, listed);
     }
-    true
+    text::write_said(to, said)
 }
 
 // What a run may use: steps, and numbers of the stack and of the list.
@@ -151,6 +174,8 @@ struct Lent {
 
 // Drives the tokens in rooms that are lent.
 fn drive_in(
+    to: &impl Print,
+    err: &impl Print,
     grammar: &[u8],
     table: &[u8],
     tokens: &[u8],
@@ -159,13 +184,20 @@ fn drive_in(
     list: &mut [u16],
 ) {
     let answer = driver::drive(grammar, table, tokens, limit, stack, list);
-    if !write_answer(answers::drive_said(answer), list) {
-        os::fail(b"standard output");
+    if let Err(why) = write_answer(to, answers::drive_said(answer), list) {
+        text::fail(err, b"standard output", why);
     }
 }
 
 // Drives the tokens with as much of the rooms as is lent.
-fn drive_tokens(grammar: &[u8], table: &[u8], tokens: &[u8], lent: Lent)
+fn drive_tokens(
+    to: &impl Print,
+    err: &impl Print,
+    grammar: &[u8],
+    table: &[u8],
+    tokens: &[u8],
+    lent: Lent,
+)
     requires { WithinRooms lent }
 {
     let mut stack = stack_room();
@@ -173,6 +205,8 @@ fn drive_tokens(grammar: &[u8], table: &[u8], tokens: &[u8], lent: Lent)
     let states = lent.stack;
     let productions = lent.list;
     drive_in(
+        to,
+        err,
         grammar,
         table,
         tokens,
@@ -183,39 +217,45 @@ fn drive_tokens(grammar: &[u8], table: &[u8], tokens: &[u8], lent: Lent)
 }
 
 // Reads the tokens, and drives them over the table.
-fn with_table(grammar: &[u8], table: &[u8], lent: Lent)
+fn with_table(
+    rt: &(impl Env + Files + Print),
+    err: &impl Print,
+    grammar: &[u8],
+    table: &[u8],
+    lent: Lent,
+)
     requires { WithinRooms lent }
 {
     let mut room = tokens_room();
-    let file = read_argument(3, false, &mut room);
-    if file.readable {
+    let file = read_argument(rt, err, 3, false, &mut room);
+    if file.readable.is_ok() {
         let size = file.size;
-        drive_tokens(grammar, table, &room[..size], lent);
+        drive_tokens(rt, err, grammar, table, &room[..size], lent);
     }
 }
 
 // Reads the table, and goes on.
-fn with_grammar(grammar: &[u8], lent: Lent)
+fn with_grammar(rt: &(impl Env + Files + Print), err: &impl Print, grammar: &[u8], lent: Lent)
     requires { WithinRooms lent }
 {
     let mut room = table_room();
-    let file = read_argument(2, false, &mut room);
-    if file.readable {
+    let file = read_argument(rt, err, 2, false, &mut room);
+    if file.readable.is_ok() {
         let size = file.size;
-        write_if_empty(size);
-        with_table(grammar, &room[..size], lent);
+        write_if_empty(rt, err, size);
+        with_table(rt, err, grammar, &room[..size], lent);
     }
 }
 
 // Reads the grammar, and goes on.
-fn with_lent(lent: Lent)
+fn with_lent(rt: &(impl Env + Files + Print), err: &impl Print, lent: Lent)
     requires { WithinRooms lent }
 {
     let mut room = [0u8; GRAMMAR_ROOM];
-    let file = read_argument(1, true, &mut room);
-    if file.readable {
+    let file = read_argument(rt, err, 1, true, &mut room);
+    if file.readable.is_ok() {
         let size = file.size;
-        with_grammar(&room[..size], lent);
+        with_grammar(rt, err, &room[..size], lent);
     }
 }
 
@@ -227,13 +267,12 @@ struct Asked {
 }
 
 // Says that a word, which the usage names so, is no number that can be given.
-fn not_given(name: &[u8], most: u64) -> Asked
+fn not_given(err: &impl Print, name: &[u8], most: u64) -> Asked
     ensures { result.number ≤ most }
 {
-    io::write_all(STDERR_FILENO, name);
-    io::write_all(STDERR_FILENO, b": no number from 0 to ");
-    io::print_decimal(STDERR_FILENO, most);
-    io::write_all(STDERR_FILENO, b"\n");
+    let _ = err.write_all(name);
+    let _ = err.write_all(b": no number from 0 to ");
+    let _ = err.println(most);
     Asked {
         number: 0,
         given: false,
@@ -241,22 +280,25 @@ fn not_given(name: &[u8], most: u64) -> Asked
 }
 
 // The number that argument i says, at most the most that can be given; the most if there is no such argument.
-fn read_number(i: usize, name: &[u8], most: u64) -> Asked
+fn read_number(rt: &impl Env, err: &impl Print, i: usize, name: &[u8], most: u64) -> Asked
     ensures { result.number ≤ most }
 {
-    if os::arg_count() <= i {
-        return Asked {
-            number: most,
-            given: true,
-        };
-    }
     let mut word = [0u8; 32];
-    let size = os::arg(i, &mut word);
+    let size = match rt.arg(i, &mut word) {
+        Ok(size) => size,
+        Err(FillError::TooLong) => 0,
+        Err(FillError::NotPresent) => {
+            return Asked {
+                number: most,
+                given: true,
+            };
+        }
+    };
     let Number::Is(number) = input::numbers::said(&word[..size]) else {
-        return not_given(name, most);
+        return not_given(err, name, most);
     };
     if most < number {
-        return not_given(name, most);
+        return not_given(err, name, most);
     }
     Asked {
         number,
@@ -265,27 +307,36 @@ fn read_number(i: usize, name: &[u8], most: u64) -> Asked
 }
 
 // Writes how to call the program.
-fn write_usage() {
-    io::write_all(
-        STDERR_FILENO,
+fn write_usage(err: &impl Print) -> io::Result<()> {
+    err.write_all(
         b"usage: splicepost_drive GRAMMAR TABLE TOKENS [LIMIT [STACK [LIST]]]\nLIMIT: the most steps; STACK, LIST: how many numbers these rooms have, at most 1100000 and 1500000\nwhat a refusal's number means: docs/REFUSALS.md\n",
-    );
+    )
 }
 
-fn main() {
-    let count = os::arg_count();
-    if count < 4 || 7 < count {
-        write_usage();
-        return;
+// Whether the call has argument i, be it empty or long.
+fn has_argument(rt: &impl Env, i: usize) -> bool {
+    let mut word = [0u8; 1];
+    !matches!(rt.arg(i, &mut word), Err(FillError::NotPresent))
+}
+
+fn main(rt: HostRuntime) -> io::Result<()> {
+    let err = rt.stderr();
+    if !has_argument(&rt, 3) || has_argument(&rt, 7) {
+        return write_usage(&err);
     }
-    let limit = read_number(4, b"LIMIT", u64::MAX);
-    let stack = read_number(5, b"STACK", STACK_ROOM as u64);
-    let list = read_number(6, b"LIST", LIST_ROOM as u64);
+    let limit = read_number(&rt, &err, 4, b"LIMIT", u64::MAX);
+    let stack = read_number(&rt, &err, 5, b"STACK", STACK_ROOM as u64);
+    let list = read_number(&rt, &err, 6, b"LIST", LIST_ROOM as u64);
     if limit.given && stack.given && list.given {
-        with_lent(Lent {
-            limit: limit.number,
-            stack: stack.number as usize,
-            list: list.number as usize,
-        });
+        with_lent(
+            &rt,
+            &err,
+            Lent {
+                limit: limit.number,
+                stack: stack.number as usize,
+                list: list.number as usize,
+            },
+        );
     }
+    Ok(())
 }
