@@ -15,7 +15,7 @@ use Rattle.base.proofs.Lists.{among_none, among_cons, zero_sum}
 use Rattle.base.proofs.Tests.{or_false}
 use Rattle.base.proofs.Places.{place, within_states}
 use Rattle.rules.specs.Limits.{Limits}
-use Rattle.rules.specs.Records.{Grammar, at}
+use Rattle.rules.specs.Records.{Grammar}
 use Rattle.rules.specs.Tokens.{within}
 use Rattle.rules.specs.Grammar.{Symbol, at_end, symbols_behind}
 use Rattle.rules.specs.First.{first_sets}

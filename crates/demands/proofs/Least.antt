@@ -5,7 +5,7 @@ use mathlib.Core.Logic.{inl, inr}
 use mathlib.Core.Bool.{Bool, true, false}
 use mathlib.Core.List.{List, [], ◌∷◌, map}
 use native.Mathlib.Omega.{arith}
-use lib.ListN.{length, get_or, set, length-map, get_or-map}
+use lib.ListN.{length, get_or, length-map, get_or-map}
 use lib.Seq.{get_or-set_same}
 use lib.Dec.{eqb}
 use borrow.Author.Tests.{eq-eqb}

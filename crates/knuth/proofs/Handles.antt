@@ -69,8 +69,8 @@ module _ (Rule : ℕ → ℕ → List Symbol → Type 0) where
   handle_is_branch h = rw h.end (branch_of_steps h.derivation h.last)
 
   -- so the first wording refuses whatever the second does
-  pub branches-determined→LR1 : {S Eof : ℕ} → Determined (LeftmostBranch Rule (nonterminal S ∷ [])) Eof → LR1 Rule S Eof
-  branches-determined→LR1 determined χ u v p m q h k e = determined χ u v p m q (handle_is_branch h) (handle_is_branch k) e
+  pub branches_determined→LR1 : {S Eof : ℕ} → Determined (LeftmostBranch Rule (nonterminal S ∷ [])) Eof → LR1 Rule S Eof
+  branches_determined→LR1 determined χ u v p m q h k e = determined χ u v p m q (handle_is_branch h) (handle_is_branch k) e
 
   -- ---- from a branch to steps: what grows to tokens is derived first
   leaf_of : {x : Symbol} {t : ℕ} {φ : List Symbol} {ps w : List ℕ} → x ≡ terminal t → Trees Rule φ ps w → Trees Rule (x ∷ φ) ps (t ∷ w)

@@ -1,6 +1,6 @@
 -- The item set of a stack of symbols, as `rules`' closures and transitions compute it, has Knuth's items of the stack and no others. So it
 -- is decided what a stack awaits and where it reduces, and every coded grammar that is LR(1) has Knuth's table.
-use Prim.Native.Nat.{ℕ, ◌+◌, ◌-◌, ◌<◌}
+use Prim.Native.Nat.{ℕ, ◌+◌, ◌<◌}
 use mathlib.Core.Path.{◌≡◌, refl, sym, ap, ◌∙◌}
 use mathlib.Core.Logic.{⊎_elim}
 use mathlib.Core.Bool.{Bool, true, false, ◌&&◌, not, true≢false}

@@ -8,9 +8,7 @@ ghost use Rattle.room.specs.Bounds.{LongEnough, IsSlot, FewTerminals};
 ghost use Rattle.lookahead.specs.Sets.{max_tokens, IsToken, set_at, put_set, copy_set, join_set, lacks_some, insert_token, take_token, has_token, lacks_token, lacks_below};
 
 use room::areas::{get_set_word, put_set_word};
-use words::{
-    WORD_BITS, all_word, single_word, word_disjoint, word_has, word_join, word_within, word_without,
-};
+use words::{all_word, single_word, word_disjoint, word_has, word_join, word_within, word_without};
 
 // The set in a slot, as a word.
 fn load(work: &[u64], slot: usize) -> u64
@@ -177,5 +175,5 @@ pub fn lacking_end(work: &[u64], into: usize, from: usize) -> usize
     if word_within(a, b) {
         return 0;
     }
-    WORD_BITS
+    words::WORD_BITS
 }

@@ -1,6 +1,6 @@
 -- Knuth's run tracks every derivation, as far as its tokens are those of the run: it never rejects where a sentence goes on, and the
 -- productions that it lists when it accepts are the sentence's only derivation.
-use Prim.Native.Nat.{ℕ, suc, ◌+◌, ◌<◌, ◌≤◌}
+use Prim.Native.Nat.{ℕ, suc, ◌<◌, ◌≤◌}
 use mathlib.Core.Path.{◌≡◌, refl, sym, ap, ap₂, ◌∙◌}
 use mathlib.Core.Logic.{◌⊎◌, inl, inr, ⊎_elim}
 use mathlib.Core.Option.{some}

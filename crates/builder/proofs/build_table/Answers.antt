@@ -19,13 +19,13 @@ pub write_states-requires-clause-long_enough : goal.write_states-requires-clause
 write_states-requires-clause-long_enough c = (omega (arith, c.construct_states.auto, c.first_sets.auto, c.requires), states_placed _ _ _ _ _ c.construct_states.ensures _ c.in-States.is)
 
 pub returns-in-Refused-clause-gives : goal.returns-in-Refused-clause-gives
-returns-in-Refused-clause-gives c = search (rules, none_written, rest_kept)
+returns-in-Refused-clause-gives c = search (rules, none_written)
 
 pub returns-in-Refused-clause-work_unchanged : goal.returns-in-Refused-clause-work_unchanged
 returns-in-Refused-clause-work_unchanged c = search (rules, none_written, rest_kept)
 
 pub returns-in-States-clause-gives : goal.returns-in-States-clause-gives
-returns-in-States-clause-gives c = search (rules, states_written, rest_kept)
+returns-in-States-clause-gives c = search (rules, states_written)
 
 pub returns-in-States-clause-work_unchanged : goal.returns-in-States-clause-work_unchanged
 returns-in-States-clause-work_unchanged c = search (rules, states_written, rest_kept)

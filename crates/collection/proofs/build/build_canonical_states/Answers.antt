@@ -7,7 +7,7 @@ pub unless_conflict-requires : goal.unless_conflict-requires
 unless_conflict-requires c = (search rules, search rules, search rules, search (rules, built_placed))
 
 pub returns-in-States : goal.returns-in-States
-returns-in-States c = search (rules, canonical_counted, canonical_refused)
+returns-in-States c = search (rules, canonical_counted)
 
 pub returns-in-Refused : goal.returns-in-Refused
 returns-in-Refused c = search (rules, canonical_counted, canonical_refused)

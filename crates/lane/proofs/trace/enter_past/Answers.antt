@@ -15,7 +15,7 @@ pub begin-empty-requires-clause-long_enough : goal.begin-empty-requires-clause-l
 begin-empty-requires-clause-long_enough c = search (rules, behind_dot)
 
 pub returns-clause-work_after : goal.returns-clause-work_after
-returns-clause-work_after c = search (rules, past_entered_lem, past_empty)
+returns-clause-work_after c = search (rules, past_entered_lem)
 
 pub returns-clause-value : goal.returns-clause-value
 returns-clause-value c = search (rules, past_entered_lem, past_empty)

@@ -11,9 +11,6 @@ symbol_behind-x-requires c = search (rules, open_here)
 pub put_closing-requires-clause-long_enough : goal.put_closing-requires-clause-long_enough
 put_closing-requires-clause-long_enough c = search (rules, few_terminals)
 
-pub put_closing-requires-clause-at_value : goal.put_closing-requires-clause-at_value
-put_closing-requires-clause-at_value c = search (rules, few_terminals)
-
 pub give-requires : goal.give-requires
 give-requires c = search (rules, set_placed)
 

@@ -7,7 +7,7 @@ pub add_over-requires-in-States : goal.add_over-requires-in-States
 add_over-requires-in-States c = (search (rules, still_parented), search rules, search rules, search rules, search (rules, still_begun))
 
 pub returns-in-States : goal.returns-in-States
-returns-in-States c = search (rules, both_over, first_refused)
+returns-in-States c = search (rules, both_over)
 
 pub returns-in-Refused : goal.returns-in-Refused
 returns-in-Refused c = search (rules, both_over, first_refused)

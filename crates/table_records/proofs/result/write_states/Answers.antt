@@ -9,9 +9,6 @@ returns-then-table-wanted c = search (rules, table_short)
 pub write_table-requires-clause-faultless : goal.write_table-requires-clause-faultless
 write_table-requires-clause-faultless c = search (rules, table_fits)
 
-pub write_table-requires-clause-long_enough : goal.write_table-requires-clause-long_enough
-write_table-requires-clause-long_enough c = search (rules, table_fits)
-
 pub write_table-requires-clause-count_in_bounds : goal.write_table-requires-clause-count_in_bounds
 write_table-requires-clause-count_in_bounds c = search (rules, table_fits)
 
