@@ -10,7 +10,6 @@ use Rattle.rules.specs.Records.{Grammar}
 use Rattle.rules.specs.Grammar.{left_of, terminal_count}
 use Rattle.rules.specs.Table.{TableRecord, table_in}
 use Rattle.rules.specs.Run.{Standing, Moved, ends, side_length, state_under, token_at, list_full, move_shift, move_goto, move_end, move_reduce, move_by, move}
-use Rattle.rules.specs.Run as run
 use Rattle.rules.specs.declared.RunEnd.TheVariants.{Accepted, Rejected, Broken, ListFull, StepLimit}
 use Rattle.record.specs.declared.lookup.Found.{Found}
 use Rattle.record.specs.declared.lookup.Found.TheVariants as found

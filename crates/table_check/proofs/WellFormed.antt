@@ -1,5 +1,4 @@
 -- The records of a table without fault ascend.
-use Prim.Native.Nat.{◌-◌}
 use mathlib.Core.Path.{◌≡◌, ◌∙◌}
 use mathlib.Core.Bool.{false}
 use mathlib.Core.List.{List}
