@@ -90,12 +90,10 @@ pub fn write_records(to: &impl Print, table: &[u8], count: usize) -> io::Result<
 pub fn write_built(to: &impl Print, answer: BuildAnswer, table: &[u8]) -> io::Result<()>
     requires { RecordsWithin answer table.now }
 {
+    write_said(to, answers::build_said(answer))?;
     match answer {
-        BuildAnswer::Built(states, records) => {
-            write_said(to, answers::build_said(BuildAnswer::Built(states, records)))?;
-            write_records(to, table, records)
-        }
-        BuildAnswer::NotBuilt(why) => write_said(to, answers::build_refusal_said(why)),
+        BuildAnswer::Built(states, records) => write_records(to, table, records),
+        BuildAnswer::NotBuilt(why) => Ok(()),
     }
 }
 
