@@ -16,25 +16,25 @@ pub overflow_add-at : goal.overflow_add-at
 overflow_add-at c = omega (arith, size_bounded _ _ _ _ _ _ c.requires.0 c.requires.2 c.requires.3, end_bounded _ _ _ _ _ _ c.requires.0 c.requires.2 c.requires.3, c.end_entry.ensures, c.first_entry-at.ensures)
 
 pub returns-then-at-size-gt-MAX_ENTRIES : goal.returns-then-at-size-gt-MAX_ENTRIES
-returns-then-at-size-gt-MAX_ENTRIES c = new_crowded _ _ _ _ _ _ c.requires.0 c.requires.2 c.requires.3 c.if-count-ge-MAX_STATES.false _ _ _ c.first_entry.ensures c.end_entry.ensures c.first_entry-at.ensures c.if-at-size-gt-MAX_ENTRIES.true
+returns-then-at-size-gt-MAX_ENTRIES c = new_crowded _ _ _ _ _ _ c.requires.0 c.requires.2 c.requires.3 c.if-count-ge-MAX_STATES.false _ _ _ c.first_entry.ensures c.end_entry.ensures c.first_entry-at.ensures (omega arith)
 
 pub clone_state-requires : goal.clone_state-requires
-clone_state-requires c = (new_able _ _ _ _ _ _ c.requires.0 c.requires.2 c.requires.3 c.if-count-ge-MAX_STATES.false _ _ _ c.first_entry.ensures c.end_entry.ensures c.first_entry-at.ensures c.if-at-size-gt-MAX_ENTRIES.false, search rules)
+clone_state-requires c = (new_able _ _ _ _ _ _ c.requires.0 c.requires.2 c.requires.3 c.if-count-ge-MAX_STATES.false _ _ _ c.first_entry.ensures c.end_entry.ensures c.first_entry-at.ensures (omega arith), search rules)
 
 pub can_join-requires : goal.can_join-requires
-can_join-requires c = (new_grouped _ _ _ _ _ _ c.requires.0 c.requires.2 c.requires.3 c.if-count-ge-MAX_STATES.false _ _ _ c.first_entry.ensures c.end_entry.ensures c.first_entry-at.ensures c.if-at-size-gt-MAX_ENTRIES.false c.requires.1 _ c.clone_state.ensures, omega (arith, c.requires.1, c.clone_state.auto), omega (arith, c.requires.2), omega arith)
+can_join-requires c = (new_grouped _ _ _ _ _ _ c.requires.0 c.requires.2 c.requires.3 c.if-count-ge-MAX_STATES.false _ _ _ c.first_entry.ensures c.end_entry.ensures c.first_entry-at.ensures (omega arith) c.requires.1 _ c.clone_state.ensures, omega (arith, c.requires.1, c.clone_state.auto), omega (arith, c.requires.2), omega arith)
 
 pub conflict_count-conflicts-requires-clause-faultless : goal.conflict_count-conflicts-requires-clause-faultless
 conflict_count-conflicts-requires-clause-faultless c = (c.requires.0.clean, c.requires.0.counted)
 
 pub conflict_count-conflicts-requires-clause-long_enough : goal.conflict_count-conflicts-requires-clause-long_enough
-conflict_count-conflicts-requires-clause-long_enough c = (omega (arith, c.requires.1, c.clone_state.auto, c.can_join.auto), tested_placed _ _ _ _ _ _ c.requires.0 c.requires.2 c.requires.3 c.if-count-ge-MAX_STATES.false _ _ _ c.first_entry.ensures c.end_entry.ensures c.first_entry-at.ensures c.if-at-size-gt-MAX_ENTRIES.false c.requires.1 _ c.clone_state.ensures _ _ c.can_join.ensures.value c.can_join.ensures.only_closure)
+conflict_count-conflicts-requires-clause-long_enough c = (omega (arith, c.requires.1, c.clone_state.auto, c.can_join.auto), tested_placed _ _ _ _ _ _ c.requires.0 c.requires.2 c.requires.3 c.if-count-ge-MAX_STATES.false _ _ _ c.first_entry.ensures c.end_entry.ensures c.first_entry-at.ensures (omega arith) c.requires.1 _ c.clone_state.ensures _ _ c.can_join.ensures.value c.can_join.ensures.only_closure)
 
 pub returns-then-not-can_join : goal.returns-then-not-can_join
-returns-then-not-can_join c = new_fails _ _ _ _ _ _ c.requires.0 c.requires.2 c.requires.3 c.if-count-ge-MAX_STATES.false _ _ _ c.first_entry.ensures c.end_entry.ensures c.first_entry-at.ensures c.if-at-size-gt-MAX_ENTRIES.false c.requires.1 _ c.clone_state.ensures _ _ c.can_join.ensures.value c.can_join.ensures.only_closure (ap not c.if-not-can_join.true) _ c.conflict_count-conflicts.ensures
+returns-then-not-can_join c = new_fails _ _ _ _ _ _ c.requires.0 c.requires.2 c.requires.3 c.if-count-ge-MAX_STATES.false _ _ _ c.first_entry.ensures c.end_entry.ensures c.first_entry-at.ensures (omega arith) c.requires.1 _ c.clone_state.ensures _ _ c.can_join.ensures.value c.can_join.ensures.only_closure (ap not c.if-not-can_join.true) _ c.conflict_count-conflicts.ensures
 
 pub patch_links-requires : goal.patch_links-requires
-patch_links-requires c = (omega (arith, c.requires.1, c.clone_state.auto, c.can_join.auto, c.join_groups.auto), omega (arith, c.requires.2, c.if-count-ge-MAX_STATES.false), new_placed _ _ _ _ _ _ c.requires.0 c.requires.2 c.requires.3 c.if-count-ge-MAX_STATES.false _ _ _ c.first_entry.ensures c.end_entry.ensures c.first_entry-at.ensures c.if-at-size-gt-MAX_ENTRIES.false c.requires.1 _ c.clone_state.ensures _ _ c.can_join.ensures.value c.can_join.ensures.only_closure _ c.join_groups.ensures, omega (arith, c.if-count-ge-MAX_STATES.false))
+patch_links-requires c = (omega (arith, c.requires.1, c.clone_state.auto, c.can_join.auto, c.join_groups.auto), omega (arith, c.requires.2, c.if-count-ge-MAX_STATES.false), new_placed _ _ _ _ _ _ c.requires.0 c.requires.2 c.requires.3 c.if-count-ge-MAX_STATES.false _ _ _ c.first_entry.ensures c.end_entry.ensures c.first_entry-at.ensures (omega arith) c.requires.1 _ c.clone_state.ensures _ _ c.can_join.ensures.value c.can_join.ensures.only_closure _ c.join_groups.ensures, omega (arith, c.if-count-ge-MAX_STATES.false))
 
 pub returns : goal.returns
-returns c = new_joins _ _ _ _ _ _ c.requires.0 c.requires.2 c.requires.3 c.if-count-ge-MAX_STATES.false _ _ _ c.first_entry.ensures c.end_entry.ensures c.first_entry-at.ensures c.if-at-size-gt-MAX_ENTRIES.false c.requires.1 _ c.clone_state.ensures _ _ c.can_join.ensures.value c.can_join.ensures.only_closure _ c.join_groups.ensures (ap not c.if-not-can_join.false) _ c.patch_links.ensures
+returns c = new_joins _ _ _ _ _ _ c.requires.0 c.requires.2 c.requires.3 c.if-count-ge-MAX_STATES.false _ _ _ c.first_entry.ensures c.end_entry.ensures c.first_entry-at.ensures (omega arith) c.requires.1 _ c.clone_state.ensures _ _ c.can_join.ensures.value c.can_join.ensures.only_closure _ c.join_groups.ensures (ap not c.if-not-can_join.false) _ c.patch_links.ensures
