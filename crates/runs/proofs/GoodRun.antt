@@ -71,14 +71,14 @@ module _ (l : Limits) (g : Grammar) (checked : Checked l g) (a_record : 0 < leng
     same_allowance : allowance_of limit stackₖ list ≡ b
     same_allowance = λ i. record { stack = sym same_room i; list = length list; limit = limit }
 
-    answerₖ-is : ranₖ.answer ≡ answer_of goneₖ
-    answerₖ-is = (run_is_course table g w limit stackₖ list).0 ∙ ap (λ d. answer_of (course table g w d)) same_allowance
+    answerₖ_is : ranₖ.answer ≡ answer_of goneₖ
+    answerₖ_is = (run_is_course table g w limit stackₖ list).0 ∙ ap (λ d. answer_of (course table g w d)) same_allowance
 
-    listₖ-is : ranₖ.list ≡ overwritten (reverse goneₖ.spot.made) list
-    listₖ-is = (run_is_course table g w limit stackₖ list).1 ∙ ap (λ d. overwritten (reverse (course table g w d).spot.made) list) same_allowance
+    listₖ_is : ranₖ.list ≡ overwritten (reverse goneₖ.spot.made) list
+    listₖ_is = (run_is_course table g w limit stackₖ list).1 ∙ ap (λ d. overwritten (reverse (course table g w d).spot.made) list) same_allowance
 
-    endₖ-is : goneₖ.end ≡ ranₖ.answer.end
-    endₖ-is = sym (ap (λ (a : RunAnswer). a.end) answerₖ-is)
+    endₖ_is : goneₖ.end ≡ ranₖ.answer.end
+    endₖ_is = sym (ap (λ (a : RunAnswer). a.end) answerₖ_is)
 
     alike : EndAlike l g checked states good table knuth w below b gone goneₖ
     alike = lockstep l g checked states good table knuth w below b
@@ -88,10 +88,10 @@ module _ (l : Limits) (g : Grammar) (checked : Checked l g) (a_record : 0 < leng
       where
         go : EndAlike l g checked states good table knuth w below b gone goneₖ → (ranₖ.answer.end ≡ Rejected) ⊎ ((ran.answer ≡ ranₖ.answer) × (ran.list ≡ ranₖ.list))
         go (inl (e, m, s, p)) = inr (
-          answer_is ∙ (λ i. record { end = e i; place = p i; steps = s i; listed = length (m i) }) ∙ sym answerₖ-is,
-          (run_is_course ours g w limit stack list).1 ∙ ap (λ (x : List ℕ). overwritten (reverse x) list) m ∙ sym listₖ-is,
+          answer_is ∙ (λ i. record { end = e i; place = p i; steps = s i; listed = length (m i) }) ∙ sym answerₖ_is,
+          (run_is_course ours g w limit stack list).1 ∙ ap (λ (x : List ℕ). overwritten (reverse x) list) m ∙ sym listₖ_is,
         )
-        go (inr (e, _)) = inl (sym endₖ-is ∙ e)
+        go (inr (e, _)) = inl (sym endₖ_is ∙ e)
 
     -- an acceptance of ours is a sentence, which Knuth's does not reject
     accepts_with_ours : ran.answer.end ≡ Accepted → goneₖ.end ≡ Accepted
@@ -101,11 +101,11 @@ module _ (l : Limits) (g : Grammar) (checked : Checked l g) (a_record : 0 < leng
 
     accepts_with_knuths : ranₖ.answer.end ≡ Accepted → gone.end ≡ Accepted
     accepts_with_knuths e =
-        ⊎_elim (λ (same, _, _, _). same ∙ endₖ-is ∙ e)
-        (λ (rejected, _). let q : Accepted ≡ Rejected = sym e ∙ sym endₖ-is ∙ rejected in absurd (let z : ◌≡◌ {A = ℕ} 0 1 = cc in omega arith)) alike
+        ⊎_elim (λ (same, _, _, _). same ∙ endₖ_is ∙ e)
+        (λ (rejected, _). let q : Accepted ≡ Rejected = sym e ∙ sym endₖ_is ∙ rejected in absurd (let z : ◌≡◌ {A = ℕ} 0 1 = cc in omega arith)) alike
 
     pub accept_alike : (ran.answer.end ≡ Accepted) ↔ (ranₖ.answer.end ≡ Accepted)
-    accept_alike = ((λ e. sym endₖ-is ∙ accepts_with_ours e), (λ e. sym end_is ∙ accepts_with_knuths e))
+    accept_alike = ((λ e. sym endₖ_is ∙ accepts_with_ours e), (λ e. sym end_is ∙ accepts_with_knuths e))
 
     pub good_run_only : ran.answer.end ≡ Accepted → OnlyDerivation g w (reverse (listed_of ran))
     good_run_only e =
@@ -129,7 +129,7 @@ module _ (l : Limits) (g : Grammar) (checked : Checked l g) (a_record : 0 < leng
     reject_at_one_place e e' =
         let (rejected, h) = knuth_rejects_first e in
         let ((x, ps, d), h') = good_ending e in
-        place_is ∙ go rejected h h' x ps d ∙ sym (ap (λ (a : RunAnswer). a.place) answerₖ-is)
+        place_is ∙ go rejected h h' x ps d ∙ sym (ap (λ (a : RunAnswer). a.place) answerₖ_is)
       where
         k : ℕ
         k = gone.spot.place

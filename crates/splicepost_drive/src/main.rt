@@ -35,6 +35,9 @@ const LIST_ROOM: usize = 1500000;
 // No longer name of a file is opened.
 const NAME_ROOM: usize = 4096;
 
+// The system's number of the error that a file's name is too long.
+const NAME_TOO_LONG: i32 = 36;
+
 // The room for a table.
 fn table_room() -> [u8; TABLE_ROOM]
     ensures { 131072 ≡ length result }
@@ -111,7 +114,7 @@ fn read_argument(
     let length = match rt.arg(i, &mut name) {
         Ok(length) => length,
         Err(_) => {
-            let why = io::Error::from(io::ErrorKind::InvalidFilename);
+            let why = io::Error::from_raw_os_error(NAME_TOO_LONG);
             text::fail(err, b"a file's name", why);
             return input::files::unread(room, why);
         }
