@@ -1,47 +1,24 @@
--- The actions of a state as numbers, put into their area one behind the other.
-use Prim.Native.Nat.{ℕ, ◌+◌, ◌*◌, ◌/◌, ◌%◌, ◌≤◌, ◌<◌}
+-- The actions of a state, put into their area one behind the other.
+use Prim.Native.Nat.{ℕ, ◌+◌, ◌≤◌, ◌<◌}
 use mathlib.Core.Path.{◌≡◌, refl, ap, ap₂, ◌∙◌}
 use mathlib.Core.List.{List, [], ◌∷◌, ◌++◌, append-nil, append_assoc}
 use native.Mathlib.Omega.{arith}
 use native.Mathlib.Decide.{ℕ_discrete}
 use lib.ListN.{get_or, length-append}
 use lib.Seq.{get_or-set_same, get_or-set_other}
-use borrow.Author.Tests.{eq-eqb, ne_eqb}
 use Rattle.base.proofs.Each.{each_same}
 use Rattle.base.proofs.EachLeft.{each_last}
 use Rattle.rules.specs.Limits.{max_columns}
-use Rattle.rules.specs.Lanes.{Action, shift, reduce}
-use Rattle.grammar.specs.Asked.{InRange}
+use Rattle.rules.specs.Lanes.{Action}
 use Rattle.room.specs.Areas.{Room, view, with_actions, put_action}
 use Rattle.room.specs.Bounds.{LongEnough}
 use Rattle.room.proofs.Lengths.{view_lengths}
-use Rattle.lookahead.specs.Sets.{IsToken}
 use Rattle.states.specs.StatesIn.{entry_in, run_in, PlacedRun}
 use Rattle.states.proofs.Places.{run_placed}
 use Rattle.lane_table.specs.Actions.{action_of, action_at, actions_in, ActionFits}
 use Rattle.actions.specs.Puts.{Added}
 
--- ---- the number of an action
-pub shift_number : (t : ℕ) → action_of (2 * t) ≡ shift t
-unfolding action_of
-shift_number t =
-    let half : 2 * t / 2 ≡ t = omega arith in
-    rw (ne_eqb (2 * t % 2) 1 (λ e. omega arith), half)
-
-pub reduce_number : (i : ℕ) → action_of (2 * i + 1) ≡ reduce i
-unfolding action_of
-reduce_number i =
-    let odd : (2 * i + 1) % 2 ≡ 1 = omega arith in
-    let half : (2 * i + 1) / 2 ≡ i = omega arith in
-    rw (eq-eqb ((2 * i + 1) % 2) 1 odd, half)
-
 module _ (bytes : List ℕ) where
-  pub shift_fits : (t : ℕ) → IsToken t → ActionFits bytes (2 * t)
-  shift_fits t low = record { reduces = λ odd. absurd (omega arith); shifts = λ even. omega arith }
-
-  pub reduce_fits : (i : ℕ) → InRange i bytes → ActionFits bytes (2 * i + 1)
-  reduce_fits i within = record { reduces = λ odd. omega arith; shifts = λ even. absurd (even (omega arith)) }
-
   -- ---- no action, one, and those of two lists
   pub added_none : (c : ℕ) (v : Room) → Added bytes [] c c v v
   added_none c v = record {

@@ -6,6 +6,7 @@ use mathlib.Core.List.{List, [], ◌∷◌, ◌++◌, map}
 use native.Mathlib.Omega.{arith}
 use lib.ListN.{length}
 use borrow.Author.Tests.{not-true, not-false}
+use Rattle.std.specs.Prelude.{Some, None}
 use Rattle.base.specs.Pick.{pick}
 use Rattle.base.specs.Each.{each_from}
 use Rattle.base.specs.Lists.{numbers_from, up_to, keep, is_empty}
@@ -21,10 +22,9 @@ use Rattle.states.specs.StatesIn.{entry_in, run_in, first_of, state_in, PlacedRu
 use Rattle.states.proofs.States.{state_run}
 use Rattle.conflicts.specs.Counts.{is_shifted}
 use Rattle.lane_table.specs.Actions.{action_of, actions_in}
-use Rattle.actions.specs.declared.put.Acting.TheVariants.{Columns, TooMany}
-use Rattle.actions.specs.Conflicting.{shift_conflicts_in, reduce_conflicts_in}
 use Rattle.actions.specs.Puts.{max_actions, is_shift_put, shift_put, shifts_put, is_put, reduction_put, reductions_put, Added, ShiftAdded, ShiftsAdded, ReductionAdded, ReductionsAdded, EntriesAdded, ActionsPut}
-use Rattle.actions.proofs.Numbers.{shift_number, reduce_number, added_none, added_both, entry_kept, run_kept}
+use Rattle.lane_table.proofs.Numbers.{shift_number, reduce_number}
+use Rattle.actions.proofs.Numbers.{added_none, added_both, entry_kept, run_kept}
 
 -- ---- one more of what is kept of a list
 mapped_last : {A B : Type 0} (f : A → B) (test : A → Bool) (xs : List A) (x : A) → map f (keep test (xs ++ (x ∷ []))) ≡ map f (keep test xs) ++ pick (test x) (f x ∷ []) []
@@ -58,19 +58,14 @@ up_to_last_lem n =
     numbers_each 0 (n + 1) ∙ each_last (λ k. k) 0 n ∙ ap₂ (λ (l : List ℕ) (k : ℕ). l ++ (k ∷ [])) (sym (numbers_each 0 n)) e
 
 -- ---- a shift
-module _ (bytes : List ℕ) (first end t c : ℕ) (v : Room) (b : Bool) (tested : b ≡ is_shifted (records bytes) (run_in v first end) t) where
+module _ (bytes : List ℕ) (first end t c : ℕ) (v : Room) (b : Bool) (tested : b ≡ is_shift_put (records bytes) (run_in v first end) t) where
   pub shift_none : not b ≡ true → ShiftAdded bytes first end t c c v v
-  unfolding shift_put is_shift_put
+  unfolding shift_put
   shift_none e = rw (← tested, not-true b e) (added_none bytes c v)
 
-  module _ (e : Bool) (shifted : not b ≡ false) (conflicts : e ≡ shift_conflicts_in (records bytes) v first end t) where
-    pub shift_free : not e ≡ true → ShiftAdded bytes first end t c c v v
-    unfolding shift_put is_shift_put
-    shift_free f = rw (← tested, not-false b shifted, ← conflicts, not-true e f) (added_none bytes c v)
-
-    pub shift_added : (d : ℕ) (q : Room) → not e ≡ false → Added bytes (action_of (2 * t) ∷ []) c d v q → ShiftAdded bytes first end t c d v q
-    unfolding shift_put is_shift_put
-    shift_added d q f added = rw (← tested, not-false b shifted, ← conflicts, not-false e f) (rw (shift_number t) at added)
+  pub shift_added : (d : ℕ) (q : Room) → not b ≡ false → Added bytes (action_of (2 * t) ∷ []) c d v q → ShiftAdded bytes first end t c d v q
+  unfolding shift_put
+  shift_added d q e added = rw (← tested, not-false b e) (rw (shift_number t) at added)
 
 -- ---- the shifts of the terminals below t
 unfoldable pub shifts_below : Grammar → State → ℕ → List Action
@@ -99,23 +94,6 @@ module _ (bytes : List ℕ) (first end : ℕ) (v : Room) where
       rw (← shifts_all (records bytes) (run_in v first end), ← e) added
 
 -- ---- a reduction
-module _ (g : Grammar) (all : Bool) (first end k i : ℕ) (v : Room) (b : Bool) (is : i ≡ (entry_in v k).item) (ends : b ≡ at_end g i) where
-  ends_as : at_end g (entry_in v k).item ≡ b
-  ends_as = sym (ends ∙ ap (at_end g) is)
-
-  pub put_incomplete : not b ≡ true → false ≡ is_put g all (run_in v first end) (entry_in v k)
-  unfolding is_put
-  put_incomplete e = rw (ends_as, not-true b e)
-
-  module _ (complete : not b ≡ false) where
-    pub put_always : all ≡ true → true ≡ is_put g all (run_in v first end) (entry_in v k)
-    unfolding is_put
-    put_always e = rw (ends_as, not-false b complete, e)
-
-    pub put_conflicting : (d : Bool) → all ≡ false → d ≡ reduce_conflicts_in g v first end k → d ≡ is_put g all (run_in v first end) (entry_in v k)
-    unfolding is_put
-    put_conflicting d e conflicts = rw (ends_as, not-false b complete, e) conflicts
-
 module _ (bytes : List ℕ) (all : Bool) (first end k c : ℕ) (v : Room) (b : Bool) (tested : b ≡ is_put (records bytes) all (run_in v first end) (entry_in v k)) where
   pub reduction_none : not b ≡ true → ReductionAdded bytes all first end k c c v v
   unfolding reduction_put
@@ -200,10 +178,10 @@ module _ (bytes : List ℕ) (s first end d : ℕ) (v q : Room) (begins : first �
   as_state : Added bytes (actions_at (records bytes) (state_in v s)) 0 d v q
   as_state = rw (state_run v s) of_state_lem
 
-  pub too_many : max_columns < d → ActionsPut bytes s v TooMany q
+  pub too_many : max_columns < d → ActionsPut bytes s v None q
   too_many h = record { put = omega (arith, as_state.count); others = as_state.others }
 
-  pub few_enough : d ≤ max_columns → ActionsPut bytes s v (Columns d) q
+  pub few_enough : d ≤ max_columns → ActionsPut bytes s v (Some d) q
   unfolding actions_in each_from
   few_enough h = record {
     put = record {

@@ -6,7 +6,7 @@ use mathlib.Core.List.{List, [], ◌∷◌}
 use native.Mathlib.Omega.{arith}
 use lib.ListN.{length}
 use lib.Dec.{eqb}
-use borrow.Author.Tests.{eq-eqb, ne_eqb, not-true, not-false}
+use borrow.Author.Tests.{ne_eqb}
 use Rattle.base.specs.Pick.{pick}
 use Rattle.base.specs.Lists.{keep, some_of, each_of}
 use Rattle.rules.specs.Records.{Grammar}
@@ -15,10 +15,7 @@ use Rattle.rules.specs.Grammar.{at_end}
 use Rattle.rules.specs.States.{Entry, reductions, shifts}
 use Rattle.rules.specs.Lanes.{meets_none, shift_conflicts, reduce_conflicts}
 use Rattle.room.specs.Areas.{Room}
-use Rattle.room.specs.Slots.{entry_slot}
-use Rattle.lookahead.specs.Sets.{set_at, has_token}
 use Rattle.states.specs.StatesIn.{entry_in, run_in}
-use Rattle.states.proofs.States.{set_of_lem}
 use Rattle.conflicts.specs.Counts.{held_shifts, held_shifts_in}
 use Rattle.actions.specs.Conflicting.{reduces_on, meets_other, shift_conflicts_in, meets_other_in, reduce_conflicts_in}
 
@@ -62,51 +59,21 @@ some_one test (x ∷ xs) ne = go (test x) (some_one test xs) ne
     go true later ne = refl
     go false later ne = later ne
 
--- ---- an entry
-ends_as : (g : Grammar) (r : Room) (j i : ℕ) (c : Bool) → i ≡ (entry_in r j).item → c ≡ at_end g i → at_end g (entry_in r j).item ≡ c
-ends_as g r j i c is last = sym (last ∙ ap (at_end g) is)
-
-module _ (g : Grammar) (t : ℕ) (r : Room) (k i : ℕ) (c : Bool) (is : i ≡ (entry_in r k).item) (last : c ≡ at_end g i) where
-  pub reduces_not : not c ≡ true → false ≡ reduces_on g t (entry_in r k)
-  unfolding reduces_on
-  reduces_not z = rw (ends_as g r k i c is last, not-true c z)
-
-  pub reduces_if : (slot : ℕ) (b : Bool) → not c ≡ false → slot ≡ entry_slot k → b ≡ has_token slot t r → b ≡ reduces_on g t (entry_in r k)
-  unfolding reduces_on
-  reduces_if slot b z at contained = rw (ends_as g r k i c is last, not-false c z, set_of_lem r k, ← at) contained
-
-module _ (g : Grammar) (r : Room) (k j a i : ℕ) (c : Bool) (is : i ≡ (entry_in r j).item) (last : c ≡ at_end g i) where
-  pub meets_not : not c ≡ true → false ≡ meets_other g (entry_in r k) (entry_in r j)
-  unfolding meets_other
-  meets_not z = rw (ends_as g r j i c is last, not-true c z)
-
-  module _ (own : a ≡ (entry_in r k).item) (complete : not c ≡ false) where
-    pub meets_same : (other : ℕ) → other ≡ (entry_in r j).item → a ≡ other → false ≡ meets_other g (entry_in r k) (entry_in r j)
-    unfolding meets_other
-    meets_same other at same = rw (ends_as g r j i c is last, not-false c complete, eq-eqb (entry_in r k).item (entry_in r j).item (sym own ∙ same ∙ at))
-
-    pub meets_if : (other x y : ℕ) (b : Bool) → other ≡ (entry_in r j).item → (a ≡ other → ⊥) → x ≡ entry_slot k → y ≡ entry_slot j → b ≡ disjoint (set_at r x) (set_at r y)
-        → not b ≡ meets_other g (entry_in r k) (entry_in r j)
-    unfolding meets_other
-    meets_if other x y b at ne at-k at_j apart =
-        let differ : eqb (entry_in r k).item (entry_in r j).item ≡ false = ne_eqb _ _ (λ e. ne (own ∙ e ∙ sym at)) in
-        rw (ends_as g r j i c is last, not-false c complete, differ, set_of_lem r k, set_of_lem r j, ← at-k, ← at_j, apart)
-
--- ---- the loops begin
-pub shift_start : (g : Grammar) (r : Room) (first end t : ℕ) → some_of (reduces_on g t) (run_in r first end) ≡ shift_conflicts_in g r first end t
+-- ---- a test of the entries is one of the reductions among them
+pub shift_whole : (g : Grammar) (r : Room) (first end t : ℕ) → some_of (reduces_on g t) (run_in r first end) ≡ shift_conflicts_in g r first end t
 unfolding reduces_on shift_conflicts reductions
-shift_start g r first end t = some_kept (λ (e : Entry). at_end g e.item) (λ (e : Entry). has e.set t) (run_in r first end)
+shift_whole g r first end t = some_kept (λ (e : Entry). at_end g e.item) (λ (e : Entry). has e.set t) (run_in r first end)
 
-pub meets_start : (g : Grammar) (r : Room) (first end k : ℕ) → some_of (meets_other g (entry_in r k)) (run_in r first end) ≡ meets_other_in g r first end k
+pub meets_whole : (g : Grammar) (r : Room) (first end k : ℕ) → some_of (meets_other g (entry_in r k)) (run_in r first end) ≡ meets_other_in g r first end k
 unfolding meets_other meets_none reductions
-meets_start g r first end k =
+meets_whole g r first end k =
     not_each_kept (λ (f : Entry). at_end g f.item) (λ (f : Entry). eqb (entry_in r k).item f.item || disjoint (entry_in r k).set f.set) (run_in r first end)
 
 -- ---- a reduction
 module _ (g : Grammar) (r : Room) (first end k h : ℕ) (held : h ≡ held_shifts_in g r first end k) where
-  pub reduce_holds : (h ≡ 0 → ⊥) → true ≡ reduce_conflicts_in g r first end k
+  pub reduce_holds : (h ≡ 0 → ⊥) → not (eqb h 0) ≡ reduce_conflicts_in g r first end k
   unfolding reduce_conflicts held_shifts
-  reduce_holds ne = rw (some_one (has (entry_in r k).set) (shifts g (run_in r first end)) (λ e. ne (held ∙ e)))
+  reduce_holds ne = rw (ne_eqb h 0 ne, some_one (has (entry_in r k).set) (shifts g (run_in r first end)) (λ e. ne (held ∙ e)))
 
   pub reduce_meets : (b : Bool) → h ≡ 0 → b ≡ meets_other_in g r first end k → b ≡ reduce_conflicts_in g r first end k
   unfolding reduce_conflicts held_shifts

@@ -1,5 +1,5 @@
 -- The actions of a state in the order in which they are put into their area, and what putting them promises.
-use Rattle.std.specs.Prelude.{ℕ, ◌+◌, ◌≤◌, ◌<◌, ◌≡◌, Bool, ◌&&◌, ◌||◌, List, [], ◌∷◌, ◌++◌, map, length, get_or}
+use Rattle.std.specs.Prelude.{ℕ, ◌+◌, ◌≤◌, ◌<◌, ◌≡◌, Bool, true, false, ◌&&◌, ◌||◌, List, [], ◌∷◌, ◌++◌, map, length, get_or, Option, Some, None}
 use Rattle.base.specs.Pick.{pick}
 use Rattle.base.specs.Lists.{keep}
 use Rattle.rules.specs.Limits.{max_columns}
@@ -11,8 +11,8 @@ use Rattle.room.specs.Areas.{Room, with_actions}
 use Rattle.states.specs.StatesIn.{entry_in, run_in, state_in}
 use Rattle.conflicts.specs.Counts.{is_shifted}
 use Rattle.lane_table.specs.Actions.{actions_in, ActionFits}
-use Rattle.actions.specs.declared.put.Acting.{Acting}
-use Rattle.actions.specs.declared.put.Acting.TheVariants.{Columns, TooMany}
+use Rattle.actions.specs.declared.put.Reductions.{Reductions}
+use Rattle.actions.specs.declared.put.Reductions.TheVariants.{Conflicting, All}
 
 -- how many actions there can be: a state has 62 shifts and 2,048 reductions at most
 abbrev pub max_actions : ℕ
@@ -29,6 +29,11 @@ shift_put g state t = pick (is_shift_put g state t) (shift t ∷ []) []
 
 unfoldable pub shifts_put : Grammar → State → List Action
 shifts_put g state = map shift (keep (shift_conflicts (reductions g state)) (shifts g state))
+
+-- all reductions are put, or those that are in a conflict
+abbrev pub is_all : Reductions → Bool
+is_all Conflicting = false
+is_all All = true
 
 -- an entry of the state is a reduction, and in a conflict if not all are put
 unfoldable pub is_put : Grammar → Bool → State → Entry → Bool
@@ -81,11 +86,11 @@ pub record InColumns (bytes : List ℕ) (actions : List Action) (c : ℕ) (v q :
   pub fit : Fitting bytes c q
   pub behind : (k : ℕ) → c ≤ k → get_or q.actions k 0 ≡ get_or v.actions k 0
 
-abbrev pub PutInto : List ℕ → List Action → Acting → Room → Room → Type 0
-PutInto bytes actions (Columns c) v q = InColumns bytes actions c v q
-PutInto bytes actions TooMany v q = max_columns < length actions
+abbrev pub PutInto : List ℕ → List Action → Option ℕ → Room → Room → Type 0
+PutInto bytes actions (Some c) v q = InColumns bytes actions c v q
+PutInto bytes actions None v q = max_columns < length actions
 
 -- the actions of state s were put into their area, and nothing else changed
-pub record ActionsPut (bytes : List ℕ) (s : ℕ) (v : Room) (r : Acting) (q : Room) : Type 0 where
+pub record ActionsPut (bytes : List ℕ) (s : ℕ) (v : Room) (r : Option ℕ) (q : Room) : Type 0 where
   pub put : PutInto bytes (actions_at (records bytes) (state_in v s)) r v q
   pub others : with_actions [] q ≡ with_actions [] v

@@ -23,6 +23,11 @@ pub either_true : (a b : Bool) → (a || b) ≡ true → (a ≡ true) ⊎ (b ≡
 either_true true b e = inl refl
 either_true false b e = inr e
 
+-- `||`, and the choice by its first test
+pub or_picks : (a b : Bool) → (a || b) ≡ pick a true b
+or_picks true b = refl
+or_picks false b = refl
+
 pub implied_true : (a b : Bool) → (not a || b) ≡ true → a ≡ true → b ≡ true
 implied_true true b e h = e
 implied_true false b e h = absurd (false≢true h)

@@ -1,6 +1,7 @@
 pub mod Among
 pub mod Each
 pub mod Fill
+pub mod Halving
 pub mod Lists
 pub mod Loops
 pub mod Part

@@ -1,6 +1,6 @@
 -- What the loops over i, i + 1, .., i + n - 1 compute, and a loop that goes on until a test holds.
 -- What is left of a loop stands under `let`, so that a loop that stops early computes no further.
-use Rattle.std.specs.Prelude.{ℕ, zero, suc, Bool, true, false}
+use Rattle.std.specs.Prelude.{ℕ, zero, suc, Bool, true, false, Option, Some, None, nat_lt}
 use Rattle.base.specs.Pick.{pick}
 
 -- each number's step, in turn
@@ -22,3 +22,7 @@ any_from test (suc n) i = let later : Bool = any_from test n (suc i) in pick (te
 unfoldable pub until {ℓ} : {A : Type ℓ} → (A → Bool) → (A → A) → ℕ → A → A
 until test step zero a = a
 until test step (suc n) a = let later = until test step n (step a) in pick (test a) a later
+
+-- the place, if it is one of the first n
+abbrev pub place_below : ℕ → ℕ → Option ℕ
+place_below n i = pick (nat_lt i n) (Some i) None

@@ -8,12 +8,12 @@
 
 ghost use Rattle.std.specs.Prelude.{◌≡◌, ◌+◌, ◌≤◌, ◌<◌, length, IfOk};
 
+use answers::Said;
+use input::rooms::{TABLE_ROOM, filled};
 use std::io;
 
 // The most that a case can lend, and what lies in the rooms before the call: no byte of a record and no number that is zero.
 const WORK_ROOM: usize = 65535;
-
-const TABLE_ROOM: usize = 131072;
 
 const BYTE: u8 = 255;
 
@@ -21,69 +21,39 @@ const NUMBER: u64 = 7;
 
 // How many bytes of the table room were written, from its front on: those behind are as they were.
 fn written(table: &[u8]) -> usize {
-    let mut end = table.len();
-    while 0 < end {
-        if table[end - 1] != BYTE {
-            return end;
-        }
-        end = end - 1;
-    }
-    0
+    table
+        .iter()
+        .rposition(|byte| *byte != BYTE)
+        .map_or(0, |last| last + 1)
 }
 
 // How many numbers of the work room are zero, from its front on.
 fn zeros(work: &[u64]) -> usize {
-    let mut count = 0;
-    while count < work.len() {
-        if work[count] != 0 {
-            return count;
-        }
-        count = count + 1;
-    }
-    count
+    work.iter()
+        .position(|number| *number != 0)
+        .unwrap_or(work.len())
 }
 
 // A number of the work room from a place on is not as it was.
 fn changed(work: &[u64], from: usize) -> bool {
-    let mut i = from;
-    while i < work.len() {
-        if work[i] != NUMBER {
-            return true;
-        }
-        i = i + 1;
-    }
-    false
+    work.iter().skip(from).any(|number| *number != NUMBER)
 }
 
 // Writes what was left in the rooms.
 fn write_rooms(to: &impl Print, table: &[u8], work: &[u64]) -> io::Result<()> {
-    to.write_all(b"  table room: ")?;
-    to.print(written(table))?;
-    to.write_all(b" bytes written; work room: ")?;
+    let bytes = written(table);
     let count = zeros(work);
-    to.print(count)?;
-    to.write_all(b" numbers zero")?;
-    if changed(work, count) {
-        to.write_all(b", changed behind them")?;
-    }
-    to.write_all(b"\n")
+    let behind = if changed(work, count) {
+        ", changed behind them"
+    } else {
+        ""
+    };
+    to.println(format_args!(
+        "  table room: {bytes} bytes written; work room: {count} numbers zero{behind}"
+    ))
 }
 
-// The room for a table before the call.
-fn table_room() -> [u8; TABLE_ROOM]
-    ensures { 131072 ≡ length result }
-{
-    [BYTE; TABLE_ROOM]
-}
-
-// The work room before the call.
-fn work_room() -> [u64; WORK_ROOM]
-    ensures { 65535 ≡ length result }
-{
-    [NUMBER; WORK_ROOM]
-}
-
-// Runs the builder in these rooms and writes the lines of the case behind its name.
+// Runs the builder in these rooms and writes the lines of the case behind its name. A mode is what the case says, be it none.
 fn run_in_rooms(
     to: &impl Print,
     mode: u64,
@@ -92,7 +62,7 @@ fn run_in_rooms(
     work: &mut [u64],
 ) -> io::Result<()> {
     let answer = builder::build(mode, grammar, table, work);
-    text::write_said(to, answers::build_said(answer))?;
+    text::write_said(to, Said::from(answer))?;
     write_rooms(to, table, work)
 }
 
@@ -110,32 +80,32 @@ fn run(
     if WORK_ROOM < work_size {
         return to.write_all(b"more work room than there is\n");
     }
-    let mut table = table_room();
-    let mut work = work_room();
+    let mut table: [u8; TABLE_ROOM] = filled(BYTE);
+    let mut work: [u64; WORK_ROOM] = filled(NUMBER);
     run_in_rooms(
         to,
         mode,
         grammar,
-        &mut table[0..table_size],
-        &mut work[0..work_size],
+        &mut table[..table_size],
+        &mut work[..work_size],
     )
 }
 
-// The number of two bytes from a place on.
+// The number of two bytes from a place on. Of `u16::from_le_bytes` the bound was not proved.
 fn number(cases: &[u8], at: usize) -> usize
     requires { at + 2 ≤ length cases.now }
     ensures { result < 65536 }
 {
-    (base::wide(cases[at]) + 256 * base::wide(cases[at + 1])) as usize
+    usize::from(cases[at]) + 256 * usize::from(cases[at + 1])
 }
 
 // Runs the builder on the grammar, in the mode and in rooms of the lengths that stand from a place on.
 fn run_described(to: &impl Print, cases: &[u8], at: usize, grammar: &[u8]) -> io::Result<()>
     requires { at + 6 ≤ length cases.now }
 {
-    let mode = base::wide(cases[at]);
+    let mode = u64::from(cases[at]);
     let work_size = number(cases, at + 1);
-    let table_size = number(cases, at + 3) + 65536 * base::wide(cases[at + 5]) as usize;
+    let table_size = number(cases, at + 3) + 65536 * usize::from(cases[at + 5]);
     run(to, mode, grammar, table_size, work_size)
 }
 
@@ -153,7 +123,7 @@ fn run_case(to: &impl Print, cases: &[u8], at: usize) -> io::Result<usize>
     ensures { IfOk result (λ next. (at < next) × (next ≤ length cases.now)) }
 {
     let name = at + 1;
-    let rooms = name + base::wide(cases[at]) as usize;
+    let rooms = name + usize::from(cases[at]);
     if cases.len() < rooms + 8 {
         return cut_short(to, cases);
     }
@@ -168,6 +138,8 @@ fn run_case(to: &impl Print, cases: &[u8], at: usize) -> io::Result<usize>
     Ok(next)
 }
 
+// Runs the cases. Each gives the place of the next, so no range goes through them; a loop shared by the programs would have to ask of its
+// closure what `run_case` promises.
 fn run_cases(to: &impl Print, cases: &[u8]) -> io::Result<()> {
     let mut at = 0;
     while at < cases.len() {
@@ -179,10 +151,8 @@ fn run_cases(to: &impl Print, cases: &[u8]) -> io::Result<()> {
 // The cases are read at once, 65,536 bytes of them at most; more than that is not run, and said to be left over.
 fn main(rt: HostRuntime) -> io::Result<()> {
     let mut space = [0u8; 65536];
-    let file = input::files::read(&mut rt.stdin(), &mut space);
-    file.readable?;
-    let n = file.size;
-    run_cases(&rt, &space[..n])?;
+    let file = input::files::read(&mut rt.stdin(), &mut space)?;
+    run_cases(&rt, &space[..file.size])?;
     if file.longer {
         rt.write_all(b"input left over\n")?;
     }

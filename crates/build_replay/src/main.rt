@@ -7,26 +7,16 @@
 
 ghost use Rattle.std.specs.Prelude.{◌≡◌, ◌≤◌, length};
 
+use input::rooms::{TABLE_ROOM, filled};
 use std::io;
 use std::io::Read;
 
 // More cases than any list has.
 const CASES: usize = 1000000;
 
-// A table has at most 128 times 127 records: at each state a goto for each of 64 nonterminals, and an action for each of 62 terminals and
-// Eof. So no case ends in 14.
-const TABLE_ROOM: usize = 131072;
-
-// The room for a table.
-fn table_room() -> [u8; TABLE_ROOM]
-    ensures { 131072 ≡ length result }
-{
-    [0; TABLE_ROOM]
-}
-
-// Builds a table and writes the text of it.
+// Builds a table, which the room holds, so that no case ends in 14, and writes the text of it. A mode is what the case says, be it none.
 fn run_case(to: &impl Print, mode: u64, grammar: &[u8]) -> io::Result<()> {
-    let mut table = table_room();
+    let mut table: [u8; TABLE_ROOM] = filled(0);
     let mut work = [0u64; 8192];
     let answer = builder::build(mode, grammar, &mut table, &mut work);
     text::write_built(to, answer, &table)
@@ -45,46 +35,35 @@ fn read_and_run<R: Read>(
     mode: u64,
     grammar: &mut [u8],
 ) -> io::Result<bool> {
-    let file = input::files::fill(from, grammar);
-    file.readable?;
-    if file.size < grammar.len() {
+    if input::files::fill(from, grammar)? < grammar.len() {
         return cut_short(to);
     }
     run_case(to, mode, grammar)?;
     Ok(true)
 }
 
-// The number of two bytes.
-fn number(low: u8, high: u8) -> usize
-    ensures { result ≤ 65535 }
-{
-    (base::wide(low) + 256 * base::wide(high)) as usize
-}
-
 // Runs the next case; false if there is none.
 fn run_next<R: Read>(from: &mut R, to: &impl Print) -> io::Result<bool> {
     let mut head = [0u8; 5];
-    let file = input::files::fill(from, &mut head);
-    file.readable?;
-    let got = file.size;
+    let got = input::files::fill(from, &mut head)?;
     if got == 0 {
         return Ok(false);
     }
     if got < 5 {
         return cut_short(to);
     }
-    if head[3] != 0 || head[4] != 0 {
+    let [mode, low, high, 0, 0] = head else {
         to.write_all(b"too long\n")?;
         return Ok(false);
-    }
-    let size = number(head[1], head[2]);
+    };
+    let size = usize::from(u16::from_le_bytes([low, high]));
     let mut space = [0u8; 65536];
-    read_and_run(from, to, base::wide(head[0]), &mut space[0..size])
+    read_and_run(from, to, u64::from(mode), &mut space[..size])
 }
 
 fn main(rt: HostRuntime) -> io::Result<()> {
     let mut from = rt.stdin();
-    for _k in 0..CASES {
+    for _ in 0..CASES {
         if !run_next(&mut from, &rt)? {
             return Ok(());
         }

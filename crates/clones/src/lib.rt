@@ -11,7 +11,7 @@ ghost use Rattle.clones.specs.Clones.{entry_copied, Copied, Cloneable, Cloned, l
 
 use grammar::items::at_end;
 use lookahead::copy_set;
-use room::areas::{get_entry, get_origin, put_entry, put_head, put_origin};
+use room::areas::{Entries, Heads, Origins, get, put};
 use room::slots::entry_slot;
 use rules::StateIndex;
 use states::{end_entry, end_state, first_entry, item, next, put_next};
@@ -21,8 +21,8 @@ fn copy_entry(work: &mut [u64], from: usize, to: usize)
     requires { LongEnough work.old × IsEntry from × IsEntry to }
     ensures { view work.new ≡ entry_copied from to (view work.old) }
 {
-    let entry = get_entry(work, from);
-    put_entry(work, to, entry);
+    let entry = get::<Entries>(work, from);
+    put::<Entries>(work, to, entry);
     copy_set(work, entry_slot(to), entry_slot(from));
 }
 
@@ -47,9 +47,9 @@ pub fn clone_state(work: &mut [u64], state: StateIndex, count: usize)
     let at = first_entry(work, clone);
     copy_entries(work, first, size, at);
     end_state(work, clone, at + size);
-    let original = get_origin(work, state);
-    put_origin(work, clone, original);
-    put_head(work, clone, count as u64);
+    let original = get::<Origins>(work, state);
+    put::<Origins>(work, clone, original);
+    put::<Heads>(work, clone, count as u64);
 }
 
 // The entry at place k leads to the clone if it led to the successor.

@@ -6,6 +6,7 @@ use mathlib.Core.List.{List, [], ◌∷◌, append-nil}
 use native.Mathlib.Omega.{arith}
 use lib.ListN.{length, replicate}
 use borrow.Author.Tests.{not-true}
+use Rattle.std.specs.Prelude.{Some}
 use Rattle.base.specs.Pick.{pick}
 use Rattle.base.specs.Loops.{until}
 use Rattle.base.specs.Lists.{keep, some_of, fold_over}
@@ -21,7 +22,6 @@ use Rattle.room.specs.Areas.{Room, view}
 use Rattle.lookahead.specs.Sets.{set_at}
 use Rattle.states.specs.StatesIn.{entry_in, run_in, PlacedRun}
 use Rattle.states.proofs.States.{set_of_lem}
-use Rattle.closures.specs.declared.Appended.TheVariants.{End}
 use Rattle.closures.specs.Closures.{follow_in, entry_closes}
 use Rattle.closures.specs.Runs.{present_entries, Closes}
 use Rattle.closures.proofs.Handing.{close_item_passes}
@@ -69,12 +69,12 @@ module _ (g : Grammar) (follow : Follow) where
 -- ---- so it is closed as it lies
 module _ (bytes : List ℕ) (canonical : Bool) (n first end : ℕ) (w : List ℕ) (run : PlacedRun (length (records bytes)) (view w) first end) (b : Bool)
     (is : b ≡ some_of (entry_closes (records bytes)) (run_in (view w) first end)) where
-  pub closed_alone : not b ≡ true → Closes bytes canonical n first end w w (End end)
+  pub closed_alone : not b ≡ true → Closes bytes canonical n first end w w (Some end)
   closed_alone e =
       let same = closure_alone (records bytes) (follow_in (records bytes) canonical n (view w)) (run_in (view w) first end) (sym is ∙ not-true b e) in
       let size : first + length (run_in (view w) first end) ≡ end = omega (arith, each_length (entry_in (view w)) first (end - first), run.ordered) in
       record {
-        ended = rw same (sym (end_fits first _ (omega (arith, run.bounded)) ∙ ap End size));
+        ended = rw same (sym (end_fits first _ (omega (arith, run.bounded)) ∙ ap Some size));
         state = λ to z. let t : to ≡ end = cc in rw (t, same);
         placed = λ to z. let t : to ≡ end = cc in rw t run;
         only = behind_none (view w) end;

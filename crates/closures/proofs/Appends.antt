@@ -6,11 +6,11 @@ use native.Mathlib.Omega.{arith}
 use lib.ListN.{length, take}
 use lib.Seq.{take-nil}
 use borrow.Author.Tests.{lt-ltb, le-ltb}
+use Rattle.std.specs.Prelude.{Some, None}
 use Rattle.rules.specs.States.{Entry, State}
 use Rattle.room.specs.Areas.{Room}
 use Rattle.lookahead.specs.Sets.{set_at}
 use Rattle.states.specs.StatesIn.{write_entry, append_entry}
-use Rattle.closures.specs.declared.Appended.TheVariants.{End, Full}
 use Rattle.closures.specs.Runs.{append_all, append_run, run_end, AppendedRun}
 
 run_none : (k : ℕ) (r : Room) → append_run k [] r ≡ r
@@ -28,11 +28,11 @@ run_more : (k : ℕ) (e : Entry) (es : State) (r : Room) → k < 2048 → append
 unfolding append_run append_all
 run_more k e es r h = let z : 2048 - k ≡ suc (2048 - (k + 1)) = omega arith in rw z
 
-pub end_fits : (k size : ℕ) → k + size ≤ 2048 → run_end k size ≡ End (k + size)
+pub end_fits : (k size : ℕ) → k + size ≤ 2048 → run_end k size ≡ Some (k + size)
 unfolding run_end
 end_fits k size h = rw (le-ltb 2048 (k + size) h)
 
-end_full : (k size : ℕ) → 2048 < k + size → run_end k size ≡ Full
+end_full : (k size : ℕ) → 2048 < k + size → run_end k size ≡ None
 unfolding run_end
 end_full k size h = rw (lt-ltb 2048 (k + size) h)
 
@@ -47,16 +47,16 @@ pub append_begins : (from : ℕ) (all : State) (v : Room) → from ≤ 2048 → 
 append_begins from all v h = record { begun = omega arith; fits = h; size = refl; left = refl }
 
 module _ (from : ℕ) (all : State) (v : Room) (to : ℕ) (rest : State) (q : Room) (at-to : AppendLeft from all v to rest q) where
-  pub append_ends : rest ≡ [] → AppendedRun from all v q (End to)
+  pub append_ends : rest ≡ [] → AppendedRun from all v q (Some to)
   append_ends none =
       let z : to ≡ from + length all = omega (arith, at-to.size, ap length none) in
       record {
         written = sym (ap (λ (es : State). append_run to es q) none ∙ run_none to q) ∙ at-to.left;
-        ended = ap End z ∙ sym (end_fits from (length all) (omega (arith, at-to.fits)));
+        ended = ap Some z ∙ sym (end_fits from (length all) (omega (arith, at-to.fits)));
       }
 
   module _ (e : Entry) (es : State) (more : rest ≡ e ∷ es) where
-    pub append_full : to ≡ 2048 → AppendedRun from all v q Full
+    pub append_full : to ≡ 2048 → AppendedRun from all v q None
     append_full z = record {
       written = sym (run_full to rest q z) ∙ at-to.left;
       ended = sym (end_full from (length all) (omega (arith, at-to.size, ap length more)));

@@ -129,10 +129,11 @@ closure_sets_are : (g : Grammar) (follow : Follow) (n m : ℕ) (kernel : State) 
 unfolding closure_sets
 closure_sets_are g follow n m kernel en em = rw (en, em)
 
-module _ (bytes : List ℕ) (canonical : Bool) (n m first end : ℕ) (w w₁ : List ℕ) (closable : Closable bytes n w) (run : PlacedRun (length (records bytes)) (view w) first end) where
-  pub cleared_run : ClosuresCleared bytes m w w₁ → PlacedRun (length (records bytes)) (view w₁) first end
-  cleared_run clear = placed_run_kept (records bytes) (view w) (view w₁) closable.clean clear.only _ first end run
+pub cleared_run : (bytes : List ℕ) (n m first end : ℕ) (w w₁ : List ℕ) → Closable bytes n w → PlacedRun (length (records bytes)) (view w) first end → ClosuresCleared bytes m w w₁
+    → PlacedRun (length (records bytes)) (view w₁) first end
+cleared_run bytes n m first end w w₁ closable run clear = placed_run_kept (records bytes) (view w) (view w₁) closable.clean clear.only _ first end run
 
+module _ (bytes : List ℕ) (canonical : Bool) (n m first end : ℕ) (w w₁ : List ℕ) (closable : Closable bytes n w) (run : PlacedRun (length (records bytes)) (view w) first end) where
   module _ (w₂ w₃ w₄ : List ℕ) (hand : ℕ) (terminals : n ≡ terminal_count (records bytes)) (nonterminals : m ≡ nonterminal_count (records bytes)) (clear : ClosuresCleared bytes m w w₁)
       (kernel : KernelCloses bytes canonical n first end w₁ w₂) (rounds : RoundsClose bytes canonical n (m * (n + 1)) w₂ w₃) (size : length w₃ ≡ length w) (slot : hand ≡ 4224) (put : view w₄ ≡ put_set hand 0 (view w₃)) where
     few_here : nonterminal_count (records bytes) ≤ 64

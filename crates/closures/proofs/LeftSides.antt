@@ -1,7 +1,7 @@
 -- Rounds over the left sides: what a left side hands on, what a round makes of the sets, and which round is the last.
 use Prim.Native.Nat.{ℕ, ◌+◌, ◌-◌, ◌*◌, ◌≤◌, ◌<◌}
 use mathlib.Core.Path.{◌≡◌, refl, sym, ap, ◌∙◌}
-use mathlib.Core.Bool.{Bool, true, false, not}
+use mathlib.Core.Bool.{Bool, true, false, not, ◌||◌}
 use mathlib.Core.List.{List}
 use native.Mathlib.Omega.{arith}
 use native.Mathlib.Nat.{sub-zero}
@@ -13,6 +13,7 @@ use Rattle.base.specs.Lists.{each_of, fold_over}
 use Rattle.base.proofs.Each.{each_at}
 use Rattle.base.proofs.ListLoops.{kept, kept_fold_turn, kept_fold_end, until_over}
 use Rattle.base.proofs.Rounds as Rounds
+use Rattle.base.proofs.Tests.{or_picks}
 use Rattle.rules.specs.Records.{Grammar, at, records, is_left_side}
 use Rattle.rules.specs.Tokens.{TokenSet}
 use Rattle.rules.specs.Grammar.{at_start, left_sides, nonterminal_count}
@@ -109,8 +110,8 @@ round_begins bytes canonical n count w e = record {
 }
 
 module _ (bytes : List ℕ) (canonical : Bool) (n count : ℕ) (w₀ w : List ℕ) (i : ℕ) (changed : Bool) (closable : Closable bytes n w₀) (at_i : RoundLeft bytes canonical n count w₀ w i changed) where
-  pub round_turns : (after : List ℕ) (new more : Bool) → i < count → length after ≡ length w → LeftSideCloses bytes canonical n i w after new → more ≡ pick changed true new → RoundLeft bytes canonical n count w₀ after (i + 1) more
-  round_turns after new more h size call says =
+  pub round_turns : (after : List ℕ) (new : Bool) → i < count → length after ≡ length w → LeftSideCloses bytes canonical n i w after new → RoundLeft bytes canonical n count w₀ after (i + 1) (changed || new)
+  round_turns after new h size call =
       let g : Grammar = records bytes in
       let follow : follow_in g canonical n (view w) ≡ follow_in g canonical n (view w₀) = follow_kept g (view w₀) (view w) closable.clean at_i.only canonical n in
       let made = rw follow at call.found in
@@ -121,7 +122,7 @@ module _ (bytes : List ℕ) (canonical : Bool) (n count : ℕ) (w₀ w : List �
         only = only_both g (view w₀) (view w) (view after) at_i.only call.only;
         left = kept_fold_turn (at_start g) (close_left_side g (follow_in g canonical n (view w₀))) count i (closures_in g (view w)) _ (closures_in g (view after)) h at_i.left made;
         lacking = Rounds.changed_turn (close_left_side g (follow_in g canonical n (view w₀))) (left_side_closed g (follow_in g canonical n (view w₀))) (left_rests g _) (at_start g) count i
-            (closures_in g (view w)) (closures_in g (view after)) new changed more _ h at_i.lacking made said says;
+            (closures_in g (view w)) (closures_in g (view after)) new changed (changed || new) _ h at_i.lacking made said (or_picks changed new);
       }
 
   pub round_ends : count ≤ i → LeftSidesClose bytes canonical n w₀ w changed

@@ -4,6 +4,7 @@ pub mod Frames
 pub mod Handing
 pub mod Kernels
 pub mod LeftSides
+pub mod Modes
 pub mod Present
 pub mod Unique
 pub mod Written

@@ -7,6 +7,7 @@ use native.Mathlib.Omega.{arith}
 use lib.ListN.{length}
 use lib.Dec.{eqb}
 use borrow.Author.Tests.{not-true, not-false}
+use Rattle.std.specs.Prelude.{Some, None}
 use Rattle.base.specs.Pick.{pick}
 use Rattle.base.specs.Lists.{keep}
 use Rattle.base.proofs.ListLoops.{kept, kept_over, kept_hit, kept_miss}
@@ -22,7 +23,6 @@ use Rattle.grammar.proofs.Coded.{nonterminal_count_below}
 use Rattle.grammar.proofs.Laws.{left_sides_lem}
 use Rattle.first.proofs.Loads.{loads_before}
 use Rattle.states.specs.StatesIn.{append_entry}
-use Rattle.closures.specs.declared.Appended.TheVariants.{End, Full}
 use Rattle.closures.specs.Closures.{closures_in, Closable}
 use Rattle.closures.specs.Runs.{AppendedRun, present_entries}
 use Rattle.closures.proofs.LeftSides.{own_set}
@@ -100,7 +100,7 @@ module _ (bytes : List ℕ) (end count : ℕ) (w₀ w : List ℕ) (to i : ℕ) (
   pub present_place : (to ≡ 2048 → ⊥) → to < 2048
   present_place ne = omega (arith, at_i.appended.fits)
 
-  pub present_ends : count ≤ i → AppendedRun end (present_entries (records bytes) (closures_in (records bytes) (view w₀)) (left_sides (records bytes))) (view w₀) (view w) (End to)
+  pub present_ends : count ≤ i → AppendedRun end (present_entries (records bytes) (closures_in (records bytes) (view w₀)) (left_sides (records bytes))) (view w₀) (view w) (Some to)
   present_ends h = append_ends end _ (view w₀) to _ (view w) at_i.appended (present_over (records bytes) (closures_in (records bytes) (view w₀)) count i h)
 
   module _ (b : Bool) (h : i < count) (is : b ≡ (at_start (records bytes) i && not (is_empty_set (set_of (closures_in (records bytes) (view w)) (at (records bytes) i).symbol)))) where
@@ -120,7 +120,7 @@ module _ (bytes : List ℕ) (end count : ℕ) (w₀ w : List ℕ) (to i : ℕ) (
           ≡ entry_of (records bytes) (closures_in (records bytes) (view w₀)) i ∷ present_entries (records bytes) (closures_in (records bytes) (view w₀)) (kept (at_start (records bytes)) count (i + 1))
       hit = present_hit (records bytes) (closures_in (records bytes) (view w₀)) count i h b here e
 
-      pub present_full : to ≡ 2048 → AppendedRun end (present_entries (records bytes) (closures_in (records bytes) (view w₀)) (left_sides (records bytes))) (view w₀) (view w) Full
+      pub present_full : to ≡ 2048 → AppendedRun end (present_entries (records bytes) (closures_in (records bytes) (view w₀)) (left_sides (records bytes))) (view w₀) (view w) None
       present_full z = append_full end _ (view w₀) to _ (view w) at_i.appended _ _ hit z
 
       module _ (n a own : ℕ) (after : List ℕ) (closable : Closable bytes n w) (record-within : 8 * i + 8 ≤ length bytes) (ne : to ≡ 2048 → ⊥) (size : length after ≡ length w)

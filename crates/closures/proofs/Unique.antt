@@ -6,6 +6,7 @@ use mathlib.Core.List.{List, []}
 use native.Mathlib.Omega.{arith}
 use native.Mathlib.Decide.{ℕ_discrete, dec_le}
 use lib.ListN.{get_or}
+use Rattle.std.specs.Prelude.{Option, Some}
 use Rattle.base.proofs.Each.{each_at}
 use Rattle.base.proofs.Unique.{one_answer}
 use Rattle.rules.specs.Records.{records}
@@ -18,8 +19,6 @@ use Rattle.room.proofs.Whole.{view_inj, one_room}
 use Rattle.lookahead.specs.Sets.{load_set, set_at}
 use Rattle.lookahead.proofs.Slots.{same_words}
 use Rattle.states.specs.StatesIn.{run_in}
-use Rattle.closures.specs.declared.Appended.{Appended}
-use Rattle.closures.specs.declared.Appended.TheVariants.{End}
 use Rattle.closures.specs.Closures.{ClosureFound}
 use Rattle.closures.specs.Runs.{append_run, AppendedRun, Closes}
 
@@ -50,7 +49,7 @@ module _ (bytes : List ℕ) (canonical : Bool) (n first end : ℕ) (work w u : L
       view_inj w u (ap (with_sets (view w).sets) others ∙ ap (λ (l : List ℕ). with_sets l (view u)) words)
 
 -- ---- appended entries
-module _ (k : ℕ) (es : State) (v : Room) (w u : List ℕ) (r a : Appended) (one : AppendedRun k es v (view w) r) (two : AppendedRun k es v (view u) a) where
+module _ (k : ℕ) (es : State) (v : Room) (w u : List ℕ) (r a : Option ℕ) (one : AppendedRun k es v (view w) r) (two : AppendedRun k es v (view u) a) where
   pub appended_room_one : w ≡ u
   appended_room_one = one_room (append_run k es v) w u one.written two.written
 
@@ -58,9 +57,9 @@ module _ (k : ℕ) (es : State) (v : Room) (w u : List ℕ) (r a : Appended) (on
   appended_answer_one = one_answer _ r a one.ended two.ended
 
 -- ---- a closed kernel: what lies in the closure's slots and behind the state is left open
-module _ (bytes : List ℕ) (canonical : Bool) (n first end : ℕ) (work w u : List ℕ) (r a : Appended) (one : Closes bytes canonical n first end work w r) (two : Closes bytes canonical n first end work u a) where
+module _ (bytes : List ℕ) (canonical : Bool) (n first end : ℕ) (work w u : List ℕ) (r a : Option ℕ) (one : Closes bytes canonical n first end work w r) (two : Closes bytes canonical n first end work u a) where
   pub closed_answer_one : r ≡ a
   closed_answer_one = one_answer _ r a one.ended two.ended
 
-  pub closed_state_one : (to : ℕ) → r ≡ End to → run_in (view w) first to ≡ run_in (view u) first to
+  pub closed_state_one : (to : ℕ) → r ≡ Some to → run_in (view w) first to ≡ run_in (view u) first to
   closed_state_one to is = one.state to is ∙ sym (two.state to (sym closed_answer_one ∙ is))

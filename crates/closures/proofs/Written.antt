@@ -8,6 +8,7 @@ use lib.ListN.{length, take, length-set, length-take, length-append}
 use lib.Seq.{take_all}
 use lib.Dec.{ltb}
 use borrow.Author.Tests.{ltb-false}
+use Rattle.std.specs.Prelude.{Option, Some, None}
 use Rattle.base.specs.Among.{Among, here, later}
 use Rattle.base.proofs.Lists.{keep_among, up_to_among_lem}
 use Rattle.base.proofs.Members.{map_among}
@@ -24,8 +25,6 @@ use Rattle.lookahead.proofs.Slots.{load_other, length_stored_set}
 use Rattle.grammar.proofs.Coded.{nonterminal_count_below}
 use Rattle.states.specs.StatesIn.{entry_in, run_in, PlacedRun, write_entry}
 use Rattle.states.proofs.Grow.{appended_elsewhere, appended_run, appended_placed_run}
-use Rattle.closures.specs.declared.Appended.{Appended}
-use Rattle.closures.specs.declared.Appended.TheVariants.{End, Full}
 use Rattle.closures.specs.Closures.{closures_in, follow_in, Closable, ClosureFound}
 use Rattle.closures.specs.Runs.{append_all, append_run, run_end, AppendedRun, present_entries, OnlyBehind, Closes}
 use Rattle.closures.proofs.Frames.{entry_kept, run_kept, placed_run_kept}
@@ -110,21 +109,21 @@ pub run_behind : (k : ℕ) (es : State) (r q : Room) → k ≤ 2048 → q ≡ ap
 unfolding append_run
 run_behind k es r q h e = rw e (all_behind k (take (2048 - k) es) r (omega (arith, length-take (2048 - k) es)))
 
-end_known : (k size to : ℕ) → End to ≡ run_end k size → (to ≡ k + size) × (k + size ≤ 2048)
+end_known : (k size to : ℕ) → Some to ≡ run_end k size → (to ≡ k + size) × (k + size ≤ 2048)
 unfolding run_end
 end_known k size to e = go (ltb 2048 (k + size)) refl
   where
     go : (b : Bool) → ltb 2048 (k + size) ≡ b → (to ≡ k + size) × (k + size ≤ 2048)
-    go true f = let z : End to ≡ Full = rw f at e in let y : ◌≡◌ {A = ℕ} 0 1 = cc in absurd (omega arith)
-    go false f = let z : End to ≡ End (k + size) = rw f at e in (cc, ltb-false 2048 (k + size) f)
+    go true f = let z : Some to ≡ None = rw f at e in let y : ◌≡◌ {A = ℕ} 0 1 = cc in absurd (omega arith)
+    go false f = let z : Some to ≡ Some (k + size) = rw f at e in (cc, ltb-false 2048 (k + size) f)
 
 end_sum : (k size j more : ℕ) → k + size ≡ j + more → run_end k size ≡ run_end j more
 unfolding run_end
 end_sum k size j more e = rw e
 
 -- a run that fits lies behind what stood before it
-module _ (record_count first k : ℕ) (es : State) (v q : Room) (r : Appended) (few : record_count ≤ 512) (sized : Lengths v) (fresh : Fresh record_count es)
-    (before : PlacedRun record_count v first k) (appended : AppendedRun k es v q r) (to : ℕ) (is : r ≡ End to) where
+module _ (record_count first k : ℕ) (es : State) (v q : Room) (r : Option ℕ) (few : record_count ≤ 512) (sized : Lengths v) (fresh : Fresh record_count es)
+    (before : PlacedRun record_count v first k) (appended : AppendedRun k es v q r) (to : ℕ) (is : r ≡ Some to) where
   pub end_is : to ≡ k + length es
   end_is = (end_known k (length es) to (sym is ∙ appended.ended)).0
 
@@ -155,7 +154,7 @@ pub closure_is : (g : Grammar) (follow : Follow) (kernel : State) → closure g 
 unfolding closure present_entries
 closure_is g follow kernel = refl
 
-module _ (bytes : List ℕ) (canonical : Bool) (n first end : ℕ) (w w₁ w₂ : List ℕ) (r : Appended) (closable : Closable bytes n w) (run : PlacedRun (length (records bytes)) (view w) first end)
+module _ (bytes : List ℕ) (canonical : Bool) (n first end : ℕ) (w w₁ w₂ : List ℕ) (r : Option ℕ) (closable : Closable bytes n w) (run : PlacedRun (length (records bytes)) (view w) first end)
     (found : ClosureFound bytes canonical n first end w w₁) (size : length w₁ ≡ length w)
     (appended : AppendedRun end (present_entries (records bytes) (closures_in (records bytes) (view w₁)) (left_sides (records bytes))) (view w₁) (view w₂) r) where
   whole : closure (records bytes) (follow_in (records bytes) canonical n (view w)) (run_in (view w) first end) ≡ run_in (view w) first end ++ present_entries (records bytes) (closures_in (records bytes) (view w₁)) (left_sides (records bytes))

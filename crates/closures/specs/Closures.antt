@@ -1,5 +1,7 @@
 -- The closure of the state at hand in the room: the set of nonterminal a lies in its closure slot.
 use Rattle.std.specs.Prelude.{ℕ, ◌≤◌, ◌<◌, ◌≡◌, Bool, true, false, not, List, [], length, replicate}
+use Rattle.rules.specs.declared.Mode.{Mode}
+use Rattle.rules.specs.declared.Mode.TheVariants.{Lane, Canonical}
 use Rattle.rules.specs.Limits.{max_bytes}
 use Rattle.rules.specs.Records.{Grammar, at, records}
 use Rattle.base.specs.Each.{each_from}
@@ -19,6 +21,11 @@ use Rattle.states.specs.StatesIn.{run_in}
 -- the sets of the grammar's nonterminals
 abbrev pub closures_in : Grammar → Room → Sets
 closures_in g r = each_from (load_set r.sets) (closure_slot 0) (nonterminal_count g)
+
+-- ---- whether the states of a mode are closed as canonical ones; those of lane mode are closed as LR(0) states
+abbrev pub is_canonical : Mode → Bool
+is_canonical Lane = false
+is_canonical Canonical = true
 
 -- ---- what the items of a nonterminal get from an entry: in canonical states by `first1`, in LR(0) states what the entry has
 unfoldable pub follow_of : Bool → ℕ → Sets → Follow

@@ -1,5 +1,5 @@
 -- Entries written one behind the other from a place on, as many as their area holds.
-use Rattle.std.specs.Prelude.{ℕ, ◌+◌, ◌-◌, ◌≤◌, ◌<◌, ◌≡◌, Bool, not, List, [], ◌∷◌, map, length, take, ltb}
+use Rattle.std.specs.Prelude.{ℕ, ◌+◌, ◌-◌, ◌≤◌, ◌<◌, ◌≡◌, Bool, not, List, [], ◌∷◌, map, length, take, ltb, Option, Some, None}
 use Rattle.base.specs.Pick.{pick}
 use Rattle.base.specs.Lists.{keep}
 use Rattle.rules.specs.Limits.{max_entries}
@@ -13,8 +13,6 @@ use Rattle.room.specs.Slots.{closure_slot, entry_slot, hand_slot}
 use Rattle.lookahead.specs.Sets.{set_at}
 use Rattle.states.specs.StatesIn.{entry_in, run_in, PlacedRun, write_entry}
 use Rattle.closures.specs.Closures.{closures_in, follow_in}
-use Rattle.closures.specs.declared.Appended.{Appended}
-use Rattle.closures.specs.declared.Appended.TheVariants.{End, Full}
 
 -- the entries lead nowhere yet
 unfoldable pub append_all : ℕ → State → Room → Room
@@ -26,11 +24,11 @@ unfolding append_all
 append_run k es r = append_all k (take (max_entries - k) es) r
 
 -- where a run of that size ends, or that it does not fit
-unfoldable pub run_end : ℕ → ℕ → Appended
-run_end k size = pick (ltb max_entries (k + size)) Full (End (k + size))
+unfoldable pub run_end : ℕ → ℕ → Option ℕ
+run_end k size = pick (ltb max_entries (k + size)) None (Some (k + size))
 
 -- the entries were appended at place k
-pub record AppendedRun (k : ℕ) (es : State) (v q : Room) (r : Appended) : Type 0 where
+pub record AppendedRun (k : ℕ) (es : State) (v q : Room) (r : Option ℕ) : Type 0 where
   pub written : q ≡ append_run k es v
   pub ended : r ≡ run_end k (length es)
 
@@ -51,8 +49,8 @@ pub record OnlyBehind (v q : Room) (from : ℕ) : Type 0 where
   pub cells : (slot : ℕ) → entry_slot max_entries ≤ slot → (slot ≡ hand_slot → ⊥) → set_at q slot ≡ set_at v slot
 
 -- the kernel that lay from `first` to `end` was closed: if its closure fits, it lies from `first` on
-pub record Closes (bytes : List ℕ) (canonical : Bool) (n first end : ℕ) (work after : List ℕ) (r : Appended) : Type 0 where
+pub record Closes (bytes : List ℕ) (canonical : Bool) (n first end : ℕ) (work after : List ℕ) (r : Option ℕ) : Type 0 where
   pub ended : r ≡ run_end first (length (closure (records bytes) (follow_in (records bytes) canonical n (view work)) (run_in (view work) first end)))
-  pub state : (to : ℕ) → r ≡ End to → run_in (view after) first to ≡ closure (records bytes) (follow_in (records bytes) canonical n (view work)) (run_in (view work) first end)
-  pub placed : (to : ℕ) → r ≡ End to → PlacedRun (length (records bytes)) (view after) first to
+  pub state : (to : ℕ) → r ≡ Some to → run_in (view after) first to ≡ closure (records bytes) (follow_in (records bytes) canonical n (view work)) (run_in (view work) first end)
+  pub placed : (to : ℕ) → r ≡ Some to → PlacedRun (length (records bytes)) (view after) first to
   pub only : OnlyBehind (view work) (view after) end

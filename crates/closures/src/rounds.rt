@@ -6,64 +6,63 @@ ghost use Rattle.rules.specs.Grammar.{terminal_count, nonterminal_count};
 ghost use Rattle.grammar.specs.Asked.{InRange};
 ghost use Rattle.room.specs.Areas.{view};
 ghost use Rattle.states.specs.StatesIn.{PlacedRun};
-ghost use Rattle.closures.specs.Closures.{Closable, LeftSideCloses, LeftSidesClose, RoundsClose, KernelCloses, ClosuresCleared, ClosureFound};
+ghost use Rattle.closures.specs.Closures.{is_canonical, Closable, LeftSideCloses, LeftSidesClose, RoundsClose, KernelCloses, ClosuresCleared, ClosureFound};
 
 use super::items::close_item;
-use first::rounds::either;
 use grammar::items::at_start;
 use grammar::records::{record_count, symbol};
 use lookahead::clear_set;
 use room::slots::{closure_slot, entry_slot, hand_slot};
+use rules::Mode;
 use states::item;
 
 // Record i, if it is a left side, hands on the set of its nonterminal; says whether something was lacking.
-fn close_left_side(g: &[u8], canonical: bool, n: usize, i: usize, work: &mut [u64]) -> bool
+fn close_left_side(g: &[u8], mode: Mode, n: usize, i: usize, work: &mut [u64]) -> bool
     requires { Closable g.now n work.old × InRange i g.now }
-    ensures { LeftSideCloses g.now canonical n i work.old work.new result }
+    ensures { LeftSideCloses g.now (is_canonical mode) n i work.old work.new result }
 {
     if !at_start(g, i) {
         return false;
     }
     let own = closure_slot(symbol(g, i));
-    close_item(g, canonical, n, i, work, own)
+    close_item(g, mode, n, i, work, own)
 }
 
 // One round over the left sides; says whether something was lacking.
-fn round(g: &[u8], canonical: bool, n: usize, work: &mut [u64]) -> bool
+fn round(g: &[u8], mode: Mode, n: usize, work: &mut [u64]) -> bool
     requires { Closable g.now n work.old }
-    ensures { LeftSidesClose g.now canonical n work.old work.new result }
+    ensures { LeftSidesClose g.now (is_canonical mode) n work.old work.new result }
 {
     let count = record_count(g);
     let mut changed = false;
     for i in 0..count {
-        let new = close_left_side(g, canonical, n, i, work);
-        changed = either(changed, new);
+        changed |= close_left_side(g, mode, n, i, work);
     }
     changed
 }
 
 // Rounds until one finds nothing that is lacking, at most m (n + 1) of them.
-fn rounds(g: &[u8], canonical: bool, n: usize, m: usize, work: &mut [u64])
+fn rounds(g: &[u8], mode: Mode, n: usize, m: usize, work: &mut [u64])
     requires { Closable g.now n work.old × (m ≤ max_nonterminals) }
-    ensures { RoundsClose g.now canonical n (m * (n + 1)) work.old work.new }
+    ensures { RoundsClose g.now (is_canonical mode) n (m * (n + 1)) work.old work.new }
 {
     let bound = m * (n + 1);
     for turn in 0..bound {
-        if !round(g, canonical, n, work) {
+        if !round(g, mode, n, work) {
             return;
         }
     }
 }
 
 // Every entry of the run from `first` to `end` hands on its set.
-fn close_kernel(g: &[u8], canonical: bool, n: usize, first: usize, end: usize, work: &mut [u64])
+fn close_kernel(g: &[u8], mode: Mode, n: usize, first: usize, end: usize, work: &mut [u64])
     requires { Closable g.now n work.old × PlacedRun (length (records g.now)) (view work.old) first end }
-    ensures { KernelCloses g.now canonical n first end work.old work.new }
+    ensures { KernelCloses g.now (is_canonical mode) n first end work.old work.new }
 {
     for k in first..end {
         let i = item(work, k);
         let from = entry_slot(k);
-        close_item(g, canonical, n, i, work, from);
+        close_item(g, mode, n, i, work, from);
     }
 }
 
@@ -82,7 +81,7 @@ fn clear_closures(g: &[u8], n: usize, m: usize, work: &mut [u64])
 // n and m are the grammar's numbers of terminals and nonterminals.
 pub fn closure_sets(
     g: &[u8],
-    canonical: bool,
+    mode: Mode,
     n: usize,
     m: usize,
     first: usize,
@@ -91,11 +90,11 @@ pub fn closure_sets(
 )
     requires closable { Closable g.now n work.old × PlacedRun (length (records g.now)) (view work.old) first end }
     requires n_value { (n ≡ terminal_count (records g.now)) × (m ≡ nonterminal_count (records g.now)) }
-    ensures { ClosureFound g.now canonical n first end work.old work.new }
+    ensures { ClosureFound g.now (is_canonical mode) n first end work.old work.new }
 {
     clear_closures(g, n, m, work);
-    close_kernel(g, canonical, n, first, end, work);
-    rounds(g, canonical, n, m, work);
+    close_kernel(g, mode, n, first, end, work);
+    rounds(g, mode, n, m, work);
     let hand = hand_slot();
     clear_set(work, hand);
 }

@@ -3,7 +3,7 @@ use Prim.Native.Nat.{ℕ}
 use mathlib.Core.Path.{◌≡◌}
 use mathlib.Core.List.{List}
 use native.Mathlib.Omega.{arith}
-use Rattle.rules.specs.declared.GrammarAnswer.TheVariants.{Coded}
+use Rattle.std.specs.Prelude.{Ok}
 use Rattle.rules.specs.Limits.{limits}
 use Rattle.rules.specs.Records.{records}
 use Rattle.rules.specs.Grammar.{grammar_answer, terminal_count, nonterminal_count}
@@ -11,7 +11,7 @@ use Rattle.grammar.proofs.Coded.{terminal_count_below, nonterminal_count_below, 
 use Rattle.room.specs.Bounds.{LongEnough}
 use Rattle.collection.specs.Collections.{Collectable}
 
-pub coded_collectable : (bytes : List ℕ) (n m : ℕ) (w : List ℕ) → grammar_answer limits bytes ≡ Coded → n ≡ terminal_count (records bytes) → m ≡ nonterminal_count (records bytes) → LongEnough w
+pub coded_collectable : (bytes : List ℕ) (n m : ℕ) (w : List ℕ) → grammar_answer limits bytes ≡ Ok tt → n ≡ terminal_count (records bytes) → m ≡ nonterminal_count (records bytes) → LongEnough w
     → Collectable bytes n m w
 coded_collectable bytes n m w answer terminals nonterminals long =
     let clean = coded_faultless bytes answer in

@@ -9,6 +9,7 @@ use lib.ListN.{length, length-append}
 use lib.Seq.{get_or-set_same}
 use lib.Dec.{eqb, ltb}
 use borrow.Author.Tests.{ltb-true, lt-ltb, le-ltb, not-true}
+use Rattle.std.specs.Prelude.{Option, Some, None}
 use Rattle.base.specs.Lists.{keep}
 use Rattle.base.proofs.EachLeft.{each_length, each_none}
 use Rattle.base.proofs.Lists.{among_none, among_cons, keep_among}
@@ -27,8 +28,6 @@ use Rattle.states.specs.StatesIn.{entry_in, run_in, first_of, state_in, PlacedRu
 use Rattle.states.proofs.States.{state_run, run_same}
 use Rattle.states.proofs.Places.{end_within, placed_kept}
 use Rattle.states.proofs.Grow.{ended_placed}
-use Rattle.closures.specs.declared.Appended.{Appended}
-use Rattle.closures.specs.declared.Appended.TheVariants.{End, Full}
 use Rattle.closures.specs.Closures.{follow_in, Closable}
 use Rattle.closures.specs.Runs.{run_end, AppendedRun, OnlyBehind, Closes}
 use Rattle.closures.proofs.Written.{Fresh, behind_both, run_behind, run_is, placed_is}
@@ -67,13 +66,13 @@ kernel_within : (g : Grammar) (follow : Follow) (kernel : State) → length kern
 unfolding closure
 kernel_within g follow kernel = longer kernel _
 
-full_known : (k size : ℕ) → Full ≡ run_end k size → 2048 < k + size
+full_known : (k size : ℕ) → None ≡ run_end k size → 2048 < k + size
 unfolding run_end
 full_known k size e = go (ltb 2048 (k + size)) refl
   where
     go : (b : Bool) → ltb 2048 (k + size) ≡ b → 2048 < k + size
     go true f = ltb-true 2048 (k + size) f
-    go false f = let z : Full ≡ End (k + size) = rw f at e in let y : ◌≡◌ {A = ℕ} 0 1 = cc in absurd (omega arith)
+    go false f = let z : None ≡ Some (k + size) = rw f at e in let y : ◌≡◌ {A = ℕ} 0 1 = cc in absurd (omega arith)
 
 too_long : (size : ℕ) → 2048 < size → false ≡ not (ltb 2048 size)
 too_long size h = rw (lt-ltb 2048 size h)
@@ -84,11 +83,11 @@ not_too_long size h = rw (le-ltb 2048 size h)
 never : {A : Type 0} → ◌≡◌ {A = Bool} false true → A
 never e = absurd (true≢false (sym e))
 
-pub closed_within : (bytes : List ℕ) (canonical : Bool) (n first end : ℕ) (w after : List ℕ) (r : Appended) (to : ℕ) → Closes bytes canonical n first end w after r → r ≡ End to → to ≤ 2048
+pub closed_within : (bytes : List ℕ) (canonical : Bool) (n first end : ℕ) (w after : List ℕ) (r : Option ℕ) (to : ℕ) → Closes bytes canonical n first end w after r → r ≡ Some to → to ≤ 2048
 closed_within bytes canonical n first end w after r to closes is = (closes.placed to is).bounded
 
 -- ---- the kernel is written
-module _ (bytes : List ℕ) (canonical : Bool) (n : ℕ) (s : StateIndex) (w w₁ : List ℕ) (first : ℕ) (r : Appended) (closable : Closable bytes n w) (some : InRange 0 bytes)
+module _ (bytes : List ℕ) (canonical : Bool) (n : ℕ) (s : StateIndex) (w w₁ : List ℕ) (first : ℕ) (r : Option ℕ) (closable : Closable bytes n w) (some : InRange 0 bytes)
     (parented : Parented bytes s.0 (s.0 + 1) w) (ef : first ≡ first_of (view w) s.0) (written : KernelAppended bytes (start_of canonical n) s.0 (view w) (view w₁) r) where
   abbrev g : Grammar
   g = records bytes
@@ -114,7 +113,7 @@ module _ (bytes : List ℕ) (canonical : Bool) (n : ℕ) (s : StateIndex) (w w�
   kernel_behind : OnlyBehind (view w) (view w₁) first
   kernel_behind = run_behind first kernel (view w) (view w₁) within appended.written
 
-  pub kernel_full : r ≡ Full → ClosesNext bytes canonical n s.0 w w₁ false
+  pub kernel_full : r ≡ None → ClosesNext bytes canonical n s.0 w w₁ false
   kernel_full is = record {
     fitted =
         too_long (first_of (view w) s.0 + length (closed_next bytes canonical n s.0 (view w)))
@@ -125,7 +124,7 @@ module _ (bytes : List ℕ) (canonical : Bool) (n : ℕ) (s : StateIndex) (w w�
   }
 
   -- ---- and closed
-  module _ (end : ℕ) (is : r ≡ End end) where
+  module _ (end : ℕ) (is : r ≡ Some end) where
     kernel_is : run_in (view w₁) first end ≡ kernel
     kernel_is =
         run_is (length g) first first kernel (view w) (view w₁) r few_records (view_lengths w closable.long) (kernel_fresh g _ (view w) s.0 some_record) none_yet appended end is
@@ -134,7 +133,7 @@ module _ (bytes : List ℕ) (canonical : Bool) (n : ℕ) (s : StateIndex) (w w�
     pub kernel_placed : PlacedRun (length (records bytes)) (view w₁) first end
     kernel_placed = placed_is (length g) first first kernel (view w) (view w₁) r few_records (view_lengths w closable.long) (kernel_fresh g _ (view w) s.0 some_record) none_yet appended end is
 
-    module _ (w₂ : List ℕ) (r₂ : Appended) (closes : Closes bytes canonical n first end w₁ w₂ r₂) where
+    module _ (w₂ : List ℕ) (r₂ : Option ℕ) (closes : Closes bytes canonical n first end w₁ w₂ r₂) where
       closed_is : closure g (follow_in g canonical n (view w₁)) (run_in (view w₁) first end) ≡ closed_next bytes canonical n s.0 (view w)
       closed_is = ap₂ (closure g) (follow_same g (view w) (view w₁) canonical n closable.clean kernel_behind.firsts) kernel_is
 
@@ -142,7 +141,7 @@ module _ (bytes : List ℕ) (canonical : Bool) (n : ℕ) (s : StateIndex) (w w�
       closed_behind =
           next_behind (view w) (view w₂) first s.0 ef (behind_both (view w) (view w₁) (view w₂) first end kernel_placed.ordered kernel_behind closes.only)
 
-      pub closure_full : r₂ ≡ Full → ClosesNext bytes canonical n s.0 w w₂ false
+      pub closure_full : r₂ ≡ None → ClosesNext bytes canonical n s.0 w w₂ false
       closure_full is₂ = record {
         fitted =
             too_long (first_of (view w) s.0 + length (closed_next bytes canonical n s.0 (view w)))
@@ -152,7 +151,7 @@ module _ (bytes : List ℕ) (canonical : Bool) (n : ℕ) (s : StateIndex) (w w�
         only = closed_behind;
       }
 
-      module _ (to : ℕ) (is₂ : r₂ ≡ End to) where
+      module _ (to : ℕ) (is₂ : r₂ ≡ Some to) where
         state_size : first + length (closed_next bytes canonical n s.0 (view w)) ≤ 2048
         state_size =
             let run = each_length (entry_in (view w₂)) first (to - first) in

@@ -7,6 +7,7 @@ use native.Mathlib.Omega.{arith}
 use lib.ListN.{length}
 use lib.Seq.{get_or-set_same}
 use borrow.Author.Tests.{lt-ltb, le-ltb}
+use Rattle.std.specs.Prelude.{Result, Ok, Err}
 use Rattle.base.specs.Each.{each_from}
 use Rattle.rules.specs.declared.BuildRefusal.{BuildRefusal}
 use Rattle.rules.specs.Limits.{Limits, limits}
@@ -20,8 +21,6 @@ use Rattle.states.proofs.States.{states_length}
 use Rattle.walks.proofs.Expand.{expand_goes}
 use Rattle.closures.specs.Closures.{follow_in}
 use Rattle.closures.proofs.Frames.{closable_kept}
-use Rattle.lr.specs.declared.Built.{Built}
-use Rattle.lr.specs.declared.Built.TheVariants.{States, Refused}
 use Rattle.lr.specs.Kernels.{kernel_in, kernels_in, Parented}
 use Rattle.lr.specs.Expansions.{StillParented}
 use Rattle.lr.proofs.Growing.{kernels_length}
@@ -101,7 +100,7 @@ module _ (bytes : List ℕ) (canonical : Bool) (n m : ℕ) (w₀ w : List ℕ) (
   unfolding collection_in
   over_is h = sym (all_over limits g follow (129 - (s + 1)) here (omega (arith, closed_length g (start_of canonical n) (view w) s count, count_is g (start_of canonical n) (view w) s count)))
 
-  pub collect_ends : count ≤ s → StatesBuilt bytes (all_states bytes canonical n (view w₀)) (view w₀) (view w) (States count)
+  pub collect_ends : count ≤ s → StatesBuilt bytes (all_states bytes canonical n (view w₀)) (view w₀) (view w) (Ok count)
   unfolding states_to PlacedTo
   collect_ends h =
       let z : s ≡ count = omega (arith, walk.within) in
@@ -111,14 +110,14 @@ module _ (bytes : List ℕ) (canonical : Bool) (n m : ℕ) (w₀ w : List ℕ) (
         only = walk.only;
       }
 
-  module _ (after : List ℕ) (r : Built) (h : s < count) (call : ExpandsNext bytes canonical n s count w after r) where
+  module _ (after : List ℕ) (r : Result ℕ BuildRefusal) (h : s < count) (call : ExpandsNext bytes canonical n s count w after r) where
     more : length here.states < length here.kernels
     more = omega (arith, closed_length g (start_of canonical n) (view w) s count, count_is g (start_of canonical n) (view w) s count)
 
     turn_is : collected_to g (start_of canonical n) (view after) (s + 1) r ≡ expand_next limits g follow here
     turn_is = call.outcome ∙ ap (λ (f : Follow). expand_next limits g f here) (follow_same g (view w₀) (view w) canonical n asked.closable.clean walk.only.firsts)
 
-    pub collect_turns : (states : ℕ) → r ≡ States states → length after ≡ length w → CollectLeft bytes canonical n w₀ after states (s + 1)
+    pub collect_turns : (states : ℕ) → r ≡ Ok states → length after ≡ length w → CollectLeft bytes canonical n w₀ after states (s + 1)
     unfolding collected_to StillParented
     collect_turns states is size =
         let (grown, parented) = rw is at call.left in
@@ -130,7 +129,7 @@ module _ (bytes : List ℕ) (canonical : Bool) (n m : ℕ) (w₀ w : List ℕ) (
           left = sym (all_more limits g follow (129 - (s + 1)) here _ more (sym (rw is at turn_is))) ∙ left_is;
         }
 
-    pub collect_refused : (why : BuildRefusal) → r ≡ Refused why → StatesBuilt bytes (all_states bytes canonical n (view w₀)) (view w₀) (view after) (Refused why)
+    pub collect_refused : (why : BuildRefusal) → r ≡ Err why → StatesBuilt bytes (all_states bytes canonical n (view w₀)) (view w₀) (view after) (Err why)
     unfolding collected_to states_to PlacedTo
     collect_refused why is = record {
       outcome = sym (all_refused limits g follow (129 - (s + 1)) here why more (sym (rw is at turn_is))) ∙ left_is;
@@ -146,7 +145,7 @@ module _ (bytes : List ℕ) (canonical : Bool) (n m : ℕ) (w w₁ : List ℕ) (
   pub begun_place : first_of (view w₁) 0 ≡ 0
   begun_place = ap (λ (r : Room). first_of r 0) put ∙ get_or-set_same (view w).first_entries 0 0 0 (omega (arith, (view_lengths w asked.closable.long).first_entries_length_lem))
 
-pub begun_built : (bytes : List ℕ) (canonical : Bool) (n : ℕ) (v p q : Room) (r : Built) → p ≡ put_first_entry 0 0 v → StatesBuilt bytes (all_states bytes canonical n p) p q r → StatesBuilt bytes (all_states bytes canonical n v) v q r
+pub begun_built : (bytes : List ℕ) (canonical : Bool) (n : ℕ) (v p q : Room) (r : Result ℕ BuildRefusal) → p ≡ put_first_entry 0 0 v → StatesBuilt bytes (all_states bytes canonical n p) p q r → StatesBuilt bytes (all_states bytes canonical n v) v q r
 begun_built bytes canonical n v p q r put built = record {
   outcome = built.outcome ∙ ap (all_states bytes canonical n) put;
   placed = built.placed;

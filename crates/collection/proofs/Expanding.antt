@@ -8,7 +8,9 @@ use native.Mathlib.Decide.{ℕ_discrete}
 use lib.ListN.{length, get_or}
 use lib.Dec.{ltb}
 use borrow.Author.Tests.{not-true, not-false}
+use Rattle.std.specs.Prelude.{Option, Some, None, is_some, ok_or, Result, Ok, Err}
 use Rattle.base.proofs.Each.{each_at, each_same}
+use Rattle.rules.specs.declared.BuildRefusal.{BuildRefusal}
 use Rattle.rules.specs.declared.BuildRefusal.TheVariants.{Items as TooManyItems}
 use Rattle.rules.specs.Limits.{limits}
 use Rattle.rules.specs.Records.{Grammar, records}
@@ -20,8 +22,6 @@ use Rattle.states.specs.StatesIn.{first_of, state_in, states_in}
 use Rattle.states.proofs.States.{states_length, states_more, state_same}
 use Rattle.states.proofs.Places.{firsts_ascend, item_count_lem, states_kept}
 use Rattle.closures.specs.Closures.{follow_in}
-use Rattle.lr.specs.declared.Built.{Built}
-use Rattle.lr.specs.declared.Built.TheVariants.{States, Refused}
 use Rattle.lr.specs.Kernels.{symbol_by, parent_word, parent_of, kernel_in, kernels_in, Parented}
 use Rattle.lr.specs.Expansions.{expansion_in, expanded_to, StillParented, Transitions}
 use Rattle.lr.proofs.Parents.{kernel_other}
@@ -41,11 +41,27 @@ module _ (g : Grammar) (follow : Follow) (c : Collection) (state : State) (is : 
   next_expanded e = rw (is, e)
 
 -- ---- the states so far with the one that was expanded
-collected : (g : Grammar) (start : TokenSet) (q : Room) (s : ℕ) (states : List State) (r : Built) → states_in q s ≡ states → expanded states (expanded_to g start q s r) ≡ collected_to g start q (s + 1) r
+collected : (g : Grammar) (start : TokenSet) (q : Room) (s : ℕ) (states : List State) (r : Result ℕ BuildRefusal) → states_in q s ≡ states → expanded states (expanded_to g start q s r) ≡ collected_to g start q (s + 1) r
 unfolding expanded expanded_to expansion_in collected_to collection_in
-collected g start q s states (States count) same =
+collected g start q s states (Ok count) same =
     ap (λ (l : List State). done (record { kernels = kernels_in g start q count; states = l })) (ap (λ (l : List State). l ++ (state_in q s ∷ [])) (sym same) ∙ sym (states_more q s))
-collected g start q s states (Refused why) same = refl
+collected g start q s states (Err why) same = refl
+
+-- ---- what `ok_or` says of the value that it was given
+module _ (o : Option (Unit {0})) (e : BuildRefusal) (r : Result (Unit {0}) BuildRefusal) (is : r ≡ ok_or o e) where
+  pub was_some : (x : Unit {0}) → r ≡ Ok x → not (is_some o) ≡ false
+  was_some x ok = go o (sym is ∙ ok)
+    where
+      go : (o : Option (Unit {0})) → ok_or o e ≡ Ok x → not (is_some o) ≡ false
+      go (Some y) h = refl
+      go None h = let z : Err e ≡ Ok x = h in let y : ◌≡◌ {A = ℕ} 0 1 = cc in absurd (omega arith)
+
+  pub was_none : (why : BuildRefusal) → r ≡ Err why → (not (is_some o) ≡ true) × (why ≡ e)
+  was_none why err = go o (sym is ∙ err)
+    where
+      go : (o : Option (Unit {0})) → ok_or o e ≡ Err why → (not (is_some o) ≡ true) × (why ≡ e)
+      go None h = let z : Err e ≡ Err why = h in (refl, cc)
+      go (Some y) h = let z : Ok y ≡ Err why = h in let y : ◌≡◌ {A = ℕ} 0 1 = cc in absurd (omega arith)
 
 -- ---- state 0's kernel goes by no room
 zero_same : (g : Grammar) (start : TokenSet) (q v : Room) → kernel_in g start q 0 ≡ kernel_in g start v 0
@@ -83,7 +99,7 @@ module _ (bytes : List ℕ) (canonical : Bool) (n s count : ℕ) (w w₁ : List 
   unfolding collection_in
   size_is = ap (λ (k : ℕ). k + length (closed_next bytes canonical n s (view w))) (item_count_lem (length g) s (view w) parented.placed)
 
-  pub expansion_refused : not fits ≡ true → ExpandsNext bytes canonical n s count w w₁ (Refused TooManyItems)
+  pub expansion_refused : not fits ≡ true → ExpandsNext bytes canonical n s count w w₁ (Err TooManyItems)
   unfolding collected_to StillParented
   expansion_refused e =
       let full : ltb 2048 (first_of (view w) s + length (closed_next bytes canonical n s (view w))) ≡ true = not-false _ (sym next.fitted ∙ not-true fits e) in
@@ -131,7 +147,7 @@ module _ (bytes : List ℕ) (canonical : Bool) (n s count : ℕ) (w w₁ : List 
     unfolding expansion_in
     expansion_is = ap₂ (λ (ks : List State) (es : State). record { kernels = ks; entries = es }) kernels_same (next.state fit)
 
-    module _ (w₂ : List ℕ) (r : Built) (over : Transitions bytes (symbols (records bytes)) s count w₁ w₂ r) where
+    module _ (w₂ : List ℕ) (r : Result ℕ BuildRefusal) (over : Transitions bytes (symbols (records bytes)) s count w₁ w₂ r) where
       states_same : states_in (view w₂) s ≡ states_in (view w) s
       states_same =
           states_kept (length g) s (view w) (view w₂) parented.placed (λ t l. ap (λ (q : Room). first_of q t) over.only.others ∙ next.only.places t l)

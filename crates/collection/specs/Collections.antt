@@ -1,5 +1,6 @@
 -- The collection of states in the room: the states that are expanded, and the kernels of all states that were added.
-use Rattle.std.specs.Prelude.{ℕ, ◌≤◌, ◌<◌, ◌≡◌, Bool, true, false, List, [], length}
+use Rattle.std.specs.Prelude.{ℕ, ◌≤◌, ◌<◌, ◌≡◌, Bool, true, false, List, [], length, Result, Ok, Err}
+use Rattle.rules.specs.declared.BuildRefusal.{BuildRefusal}
 use Rattle.rules.specs.Limits.{limits, max_entries}
 use Rattle.rules.specs.Records.{Grammar, records}
 use Rattle.rules.specs.Tokens.{TokenSet, eof, all}
@@ -11,8 +12,6 @@ use Rattle.states.specs.StatesIn.{states_in, Placed}
 use Rattle.grammar.specs.Asked.{InRange}
 use Rattle.first.specs.Asked.{Counted}
 use Rattle.closures.specs.Closures.{Closable, follow_in}
-use Rattle.lr.specs.declared.Built.{Built}
-use Rattle.lr.specs.declared.Built.TheVariants.{States, Refused}
 use Rattle.lr.specs.Kernels.{kernels_in}
 
 -- ---- what the construction asks of the grammar's bytes, of its numbers of terminals and nonterminals, and of the room
@@ -36,20 +35,20 @@ unfoldable pub collection_in : Grammar → TokenSet → Room → ℕ → ℕ →
 unfolding kernels_in states_in
 collection_in g start r closed count = record { kernels = kernels_in g start r count; states = states_in r closed }
 
-unfoldable pub collected_to : Grammar → TokenSet → Room → ℕ → Built → Outcome Collection
+unfoldable pub collected_to : Grammar → TokenSet → Room → ℕ → Result ℕ BuildRefusal → Outcome Collection
 unfolding collection_in
-collected_to g start r closed (States count) = done (collection_in g start r closed count)
-collected_to g start r closed (Refused why) = refused why
+collected_to g start r closed (Ok count) = done (collection_in g start r closed count)
+collected_to g start r closed (Err why) = refused why
 
 -- ---- what an answer says of the room that it left: the states, and that they are in place
-unfoldable pub states_to : Room → Built → Outcome (List State)
+unfoldable pub states_to : Room → Result ℕ BuildRefusal → Outcome (List State)
 unfolding states_in
-states_to r (States count) = done (states_in r count)
-states_to r (Refused why) = refused why
+states_to r (Ok count) = done (states_in r count)
+states_to r (Err why) = refused why
 
-unfoldable pub PlacedTo : ℕ → Room → Built → Type 0
-PlacedTo record_count r (States count) = Placed record_count count r
-PlacedTo record_count r (Refused why) = Unit {0}
+unfoldable pub PlacedTo : ℕ → Room → Result ℕ BuildRefusal → Type 0
+PlacedTo record_count r (Ok count) = Placed record_count count r
+PlacedTo record_count r (Err why) = Unit {0}
 
 -- ---- the areas that the construction does not touch
 abbrev pub elsewhere : Room → Room
@@ -62,11 +61,11 @@ pub record OnlyCollected (v q : Room) : Type 0 where
   pub cells : (slot : ℕ) → entry_slot max_entries ≤ slot → (slot ≡ hand_slot → ⊥) → set_at q slot ≡ set_at v slot
 
 -- the construction, from the room v, gave r and the room q, as `promised` says
-pub record StatesBuilt (bytes : List ℕ) (promised : Outcome (List State)) (v q : Room) (r : Built) : Type 0 where
+pub record StatesBuilt (bytes : List ℕ) (promised : Outcome (List State)) (v q : Room) (r : Result ℕ BuildRefusal) : Type 0 where
   pub outcome : states_to q r ≡ promised
   pub placed : PlacedTo (length (records bytes)) q r
   pub only : OnlyCollected v q
 
 -- the conflicts of the first `count` states were counted
-abbrev pub ConflictsCounted : List ℕ → ℕ → Room → Built → Type 0
+abbrev pub ConflictsCounted : List ℕ → ℕ → Room → Result ℕ BuildRefusal → Type 0
 ConflictsCounted bytes count v r = StatesBuilt bytes (unless_conflict (records bytes) (done (states_in v count))) v v r

@@ -1,5 +1,6 @@
 -- What a turn of the construction promises: the next state's kernel is written, closed, and its transitions are added.
-use Rattle.std.specs.Prelude.{ℕ, ◌+◌, ◌≤◌, ◌<◌, ◌≡◌, Bool, true, not, List, [], length, ltb}
+use Rattle.std.specs.Prelude.{ℕ, ◌+◌, ◌≤◌, ◌<◌, ◌≡◌, Bool, true, not, List, [], length, ltb, Option, Result}
+use Rattle.rules.specs.declared.BuildRefusal.{BuildRefusal}
 use Rattle.rules.specs.Limits.{limits, max_entries}
 use Rattle.rules.specs.Records.{records}
 use Rattle.rules.specs.Tokens.{TokenSet}
@@ -8,19 +9,17 @@ use Rattle.room.specs.Areas.{Room, view, with_entries, with_first_entries, with_
 use Rattle.room.specs.Slots.{closure_slot, entry_slot, hand_slot}
 use Rattle.lookahead.specs.Sets.{set_at}
 use Rattle.states.specs.StatesIn.{entry_in, first_of, state_in, Placed}
-use Rattle.closures.specs.declared.Appended.{Appended}
 use Rattle.closures.specs.Closures.{follow_in}
 use Rattle.closures.specs.Runs.{AppendedRun}
-use Rattle.lr.specs.declared.Built.{Built}
 use Rattle.lr.specs.Kernels.{own_kernel, kernel_in}
 use Rattle.lr.specs.Expansions.{StillParented}
 use Rattle.collection.specs.Collections.{start_of, collection_in, collected_to, OnlyCollected}
 
 -- ---- the kernel of state s was appended behind the states before it: that of a state with a parent, and that of any state
-abbrev pub OwnAppended : List ℕ → ℕ → Room → Room → Appended → Type 0
+abbrev pub OwnAppended : List ℕ → ℕ → Room → Room → Option ℕ → Type 0
 OwnAppended bytes s v q r = AppendedRun (first_of v s) (own_kernel bytes v s) v q r
 
-abbrev pub KernelAppended : List ℕ → TokenSet → ℕ → Room → Room → Appended → Type 0
+abbrev pub KernelAppended : List ℕ → TokenSet → ℕ → Room → Room → Option ℕ → Type 0
 KernelAppended bytes start s v q r = AppendedRun (first_of v s) (kernel_in (records bytes) start v s) v q r
 
 -- ---- and closed
@@ -46,7 +45,7 @@ pub record ClosesNext (bytes : List ℕ) (canonical : Bool) (n s : ℕ) (work af
   pub only : OnlyNext (view work) (view after) s
 
 -- ---- and its transitions were added
-pub record ExpandsNext (bytes : List ℕ) (canonical : Bool) (n s count : ℕ) (work after : List ℕ) (r : Built) : Type 0 where
+pub record ExpandsNext (bytes : List ℕ) (canonical : Bool) (n s count : ℕ) (work after : List ℕ) (r : Result ℕ BuildRefusal) : Type 0 where
   pub outcome : collected_to (records bytes) (start_of canonical n) (view after) (s + 1) r
       ≡ expand_next limits (records bytes) (follow_in (records bytes) canonical n (view work)) (collection_in (records bytes) (start_of canonical n) (view work) s count)
   pub only : OnlyCollected (view work) (view after)

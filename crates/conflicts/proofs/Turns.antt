@@ -1,18 +1,22 @@
 -- The loops of the conflict count, turn by turn, and the tests in them.
-use Prim.Native.Nat.{ℕ, ◌+◌, ◌-◌, ◌<◌, ◌≤◌}
+use Prim.Native.Nat.{ℕ, zero, suc, ◌+◌, ◌-◌, ◌<◌, ◌≤◌}
 use mathlib.Core.Path.{◌≡◌, refl, sym, ap, ap₂, ◌∙◌}
-use mathlib.Core.Bool.{Bool, true, false, not, ◌&&◌}
-use mathlib.Core.List.{List, map}
+use mathlib.Core.Bool.{Bool, true, false, not, cond, ◌&&◌}
+use mathlib.Core.List.{List, [], ◌∷◌, map}
 use native.Mathlib.Omega.{arith}
 use native.Mathlib.Nat.{sub-zero}
+use native.Mathlib.Numerals.{add-one}
 use lib.ListN.{length}
 use borrow.Author.Tests.{not-true, not-false}
+use Rattle.std.specs.List.{range_with_len, filter}
+use Rattle.std.proofs.lemmas.List.FromFn.{length-range_with_len}
 use Rattle.base.specs.Pick.{pick}
 use Rattle.base.specs.Each.{each_from}
 use Rattle.base.specs.Lists.{up_to, sum, keep}
 use Rattle.base.proofs.EachLeft.{each_none, each_more, each_some_turn, each_some_found, each_some_end}
-use Rattle.base.proofs.ListLoops.{kept, kept_start}
+use Rattle.base.proofs.Ranges.{filter_up_to}
 use Rattle.base.proofs.Lists.{keep_keep}
+use Rattle.rules.specs.Limits.{max_entries}
 use Rattle.rules.specs.Records.{Grammar, records}
 use Rattle.rules.specs.Tokens.{TokenSet, has, disjoint}
 use Rattle.rules.specs.Grammar.{terminal, at_end, is_before, terminal_count}
@@ -48,58 +52,75 @@ module _ (g : Grammar) (t : ℕ) (r : Room) (first end k slot : ℕ) (c : Bool) 
   held_as : has (entry_in r k).set t ≡ c
   held_as = ap (λ (s : TokenSet). has s t) (set_of_lem r k) ∙ sym (contained ∙ ap (λ (s : ℕ). has_token s t r) at)
 
-  pub held_not : not c ≡ true → ◌≡◌ {A = ℕ} 0 (pick (is_held_in g r first end k t) 1 0)
+  pub held_out : c ≡ false → false ≡ is_held_in g r first end k t
   unfolding is_held
-  held_not z = rw (held_as, not-true c z) (go (is_shifted g (run_in r first end) t))
+  held_out z = rw (held_as, z) (go (is_shifted g (run_in r first end) t))
     where
-      go : (b : Bool) → ◌≡◌ {A = ℕ} 0 (pick (b && false) 1 0)
+      go : (b : Bool) → false ≡ (b && false)
       go true = refl
       go false = refl
 
-  module _ (b : Bool) (in-set : not c ≡ false) (shifted : b ≡ is_shifted g (run_in r first end) t) where
-    pub held_shifted : b ≡ true → ◌≡◌ {A = ℕ} 1 (pick (is_held_in g r first end k t) 1 0)
-    unfolding is_held
-    held_shifted y = rw (held_as, not-false c in-set, ← shifted, y)
+  pub held_shifted : (b : Bool) → c ≡ true → b ≡ is_shifted g (run_in r first end) t → b ≡ is_held_in g r first end k t
+  unfolding is_held
+  held_shifted b z shifted = rw (held_as, z, ← shifted) (go b)
+    where
+      go : (b : Bool) → b ≡ (b && true)
+      go true = refl
+      go false = refl
 
-    pub held_unshifted : b ≡ false → ◌≡◌ {A = ℕ} 0 (pick (is_held_in g r first end k t) 1 0)
-    unfolding is_held
-    held_unshifted y = rw (← shifted, y)
+-- no more pass a test than there are
+pub few_pass : {A : Type 0} (test : A → Bool) (xs : List A) → length (filter test xs) ≤ length xs
+few_pass test [] = omega arith
+few_pass test (x ∷ xs) = by_test (test x) (few_pass test xs)
+  where
+    by_test : (b : Bool) → length (filter test xs) ≤ length xs → length (cond b (x ∷ filter test xs) (filter test xs)) ≤ length (x ∷ xs)
+    by_test true h = omega arith
+    by_test false h = omega arith
 
-pub held_start : (g : Grammar) (r : Room) (n first end k : ℕ) → n ≡ terminal_count g → 0 + length (kept (is_held g (run_in r first end) (entry_in r k).set) n 0) ≡ held_shifts_in g r first end k
+pub held_counted : (g : Grammar) (r : Room) (n first end k c : ℕ) → n ≡ terminal_count g → c ≡ length (filter (is_held_in g r first end k) (range_with_len 0 n))
+    → (c ≡ held_shifts_in g r first end k) × (c ≤ n)
 unfolding is_held held_shifts shifts is_shifted
-held_start g r n first end k e =
+held_counted g r n first end k c e f =
     let state : State = run_in r first end in
     let s : TokenSet = (entry_in r k).set in
-    let all_of : kept (is_held g state s) n 0 ≡ keep (is_held g state s) (up_to (terminal_count g)) = kept_start (is_held g state s) n ∙ ap (λ (m : ℕ). keep (is_held g state s) (up_to m)) e in
-    let l : length (kept (is_held g state s) n 0) ≡ held_shifts g state s = ap length (all_of ∙ sym (keep_keep (has s) (is_shifted g state) (up_to (terminal_count g)))) in
-    omega arith
+    let all_of : filter (is_held g state s) (range_with_len 0 n) ≡ keep (is_held g state s) (up_to (terminal_count g)) = filter_up_to (is_held g state s) n ∙ ap (λ (m : ℕ). keep (is_held g state s) (up_to m)) e in (
+      f ∙ ap length (all_of ∙ sym (keep_keep (has s) (is_shifted g state) (up_to (terminal_count g)))),
+      omega (arith, f, few_pass (is_held_in g r first end k) (range_with_len 0 n), length-range_with_len 0 n),
+    )
 
 -- ---- the entry at place j is a reduction, and its set meets that of k
 ends_as : (g : Grammar) (r : Room) (j i : ℕ) (c : Bool) → i ≡ (entry_in r j).item → c ≡ at_end g i → at_end g (entry_in r j).item ≡ c
 ends_as g r j i c is last = sym (last ∙ ap (at_end g) is)
 
 module _ (g : Grammar) (r : Room) (k j i : ℕ) (c : Bool) (is : i ≡ (entry_in r j).item) (last : c ≡ at_end g i) where
-  pub meets_not : not c ≡ true → ◌≡◌ {A = ℕ} 0 (pick (meets_in g r k j) 1 0)
+  pub meets_not : c ≡ false → false ≡ meets_in g r k j
   unfolding meets_reduction
-  meets_not z = rw (ends_as g r j i c is last, not-true c z)
+  meets_not z = rw (ends_as g r j i c is last, z)
 
-  module _ (x y : ℕ) (b : Bool) (complete : not c ≡ false) (at-k : x ≡ entry_slot k) (at_j : y ≡ entry_slot j) (apart : b ≡ disjoint (set_at r x) (set_at r y)) where
-    apart_as : disjoint (entry_in r k).set (entry_in r j).set ≡ b
-    apart_as = rw (set_of_lem r k, set_of_lem r j, ← at-k, ← at_j) (sym apart)
+  pub meets_as : (x y : ℕ) (b : Bool) → c ≡ true → x ≡ entry_slot k → y ≡ entry_slot j → b ≡ disjoint (set_at r x) (set_at r y) → not b ≡ meets_in g r k j
+  unfolding meets_reduction
+  meets_as x y b z at-k at_j apart = rw (ends_as g r j i c is last, z, set_of_lem r k, set_of_lem r j, ← at-k, ← at_j, ← apart)
 
-    pub meets_apart : b ≡ true → ◌≡◌ {A = ℕ} 0 (pick (meets_in g r k j) 1 0)
-    unfolding meets_reduction
-    meets_apart z = rw (ends_as g r j i c is last, not-false c complete, apart_as, z)
+-- what passes of the entries of a run, by their places
+passed_in : (test : Entry → Bool) (f : ℕ → Entry) (i n : ℕ) → length (filter (λ j. test (f j)) (range_with_len i n)) ≡ length (keep test (each_from f i n))
+unfolding keep each_from
+passed_in test f i zero = refl
+passed_in test f i (suc n) = by_test (test (f i)) (rw add-one (passed_in test f (suc i) n))
+  where
+    by_test : (b : Bool) → length (filter (λ j. test (f j)) (range_with_len (i + 1) n)) ≡ length (keep test (each_from f (suc i) n))
+        → length (cond b (i ∷ filter (λ j. test (f j)) (range_with_len (i + 1) n)) (filter (λ j. test (f j)) (range_with_len (i + 1) n)))
+        ≡ length (pick b (f i ∷ keep test (each_from f (suc i) n)) (keep test (each_from f (suc i) n)))
+    by_test true e = ap suc e
+    by_test false e = e
 
-    pub meets_both : b ≡ false → ◌≡◌ {A = ℕ} 1 (pick (meets_in g r k j) 1 0)
-    unfolding meets_reduction
-    meets_both z = rw (ends_as g r j i c is last, not-false c complete, apart_as, z)
-
-pub meeting_start : (g : Grammar) (s : TokenSet) (es : List Entry) → 0 + length (keep (meets_reduction g s) es) ≡ meeting s (reductions g es)
+pub meeting_counted : (g : Grammar) (r : Room) (k end c : ℕ) → end ≤ max_entries → c ≡ length (filter (meets_in g r k) (range_with_len (k + 1) (end - (k + 1))))
+    → (c ≡ meeting_in g r k end) × (c ≤ max_entries)
 unfolding meeting reductions meets_reduction
-meeting_start g s es =
-    let l : length (keep (meets_reduction g s) es) ≡ meeting s (reductions g es) = ap length (sym (keep_keep (λ (e : Entry). not (disjoint s e.set)) (λ (e : Entry). at_end g e.item) es)) in
-    omega arith
+meeting_counted g r k end c h f =
+    let s : TokenSet = (entry_in r k).set in (
+      f ∙ passed_in (meets_reduction g s) (entry_in r) (k + 1) (end - (k + 1)) ∙ ap length (sym (keep_keep (λ (e : Entry). not (disjoint s e.set)) (λ (e : Entry). at_end g e.item) (run_in r (k + 1) end))),
+      omega (arith, f, few_pass (meets_in g r k) (range_with_len (k + 1) (end - (k + 1))), length-range_with_len (k + 1) (end - (k + 1))),
+    )
 
 -- ---- the conflicts of an entry
 module _ (g : Grammar) (r : Room) (first end k i : ℕ) (c : Bool) (is : i ≡ (entry_in r k).item) (last : c ≡ at_end g i) where

@@ -1,15 +1,17 @@
 // The conflict count: lookahead.rs, conflicts. Each reduction is held against the terminals that its state shifts, and against the
-// reductions behind it. `first` and `end` are the places of a state's entries.
+// reductions behind it. `first` and `end` are the places of a state's entries. `conflicts_at` and `conflict_count` add in loops, each turn with
+// its bound: `sum` would ask beforehand that all of it fits.
 #![tactic(auto)]
 
 ghost use Rattle.std.specs.Prelude.{◌≡◌, ◌≤◌, ◌<◌, length};
-ghost use Rattle.base.specs.Pick.{pick};
 ghost use Rattle.rules.specs.Limits.{max_entries};
 ghost use Rattle.rules.specs.Records.{records};
 ghost use Rattle.rules.specs.Grammar.{terminal_count};
 ghost use Rattle.rules.specs.States.{conflicts_at, conflict_count};
-ghost use Rattle.grammar.specs.Asked.{Faultless};
+ghost use Rattle.grammar.specs.Asked.{Faultless, InRange};
 ghost use Rattle.room.specs.Areas.{view};
+ghost use Rattle.room.specs.Bounds.{IsEntry};
+ghost use Rattle.states.specs.StatesIn.{entry_in};
 ghost use Rattle.room.specs.Bounds.{LongEnough, IsState, FewTerminals};
 ghost use Rattle.lookahead.specs.Sets.{IsToken};
 ghost use Rattle.states.specs.StatesIn.{state_in, states_in, PlacedAt, Placed};
@@ -26,26 +28,19 @@ pub fn is_shifted(g: &[u8], t: usize, first: usize, end: usize, work: &[u64]) ->
     requires { Readable g.now work.now first end }
     ensures { result ≡ is_shifted_in (records g.now) (view work.now) first end t }
 {
-    for k in first..end {
-        if before_terminal(g, t, item(work, k)) {
-            return true;
-        }
-    }
-    false
+    (first..end).any(
+        |k|
+            requires { LongEnough work.now × IsEntry k × InRange (entry_in (view work.now) k).item g.now }
+        { before_terminal(g, t, item(work, k)) },
+    )
 }
 
-// 1 if terminal t is shifted and in the set of the entry at place k, else 0.
-fn count_held(g: &[u8], t: usize, k: usize, first: usize, end: usize, work: &[u64]) -> usize
+// Terminal t is shifted and in the set of the entry at place k.
+fn is_held(g: &[u8], t: usize, k: usize, first: usize, end: usize, work: &[u64]) -> bool
     requires { Readable g.now work.now first end × (k < end) × IsToken t }
-    ensures { (result ≡ pick (is_held_in (records g.now) (view work.now) first end k t) 1 0) × (result ≤ 1) }
+    ensures { result ≡ is_held_in (records g.now) (view work.now) first end k t }
 {
-    if !contains(work, entry_slot(k), t) {
-        return 0;
-    }
-    if is_shifted(g, t, first, end, work) {
-        return 1;
-    }
-    0
+    contains(work, entry_slot(k), t) && is_shifted(g, t, first, end, work)
 }
 
 // How many of the shifted terminals are in the set of the entry at place k.
@@ -53,25 +48,17 @@ pub fn held_shifts(g: &[u8], n: usize, k: usize, first: usize, end: usize, work:
     requires { Readable g.now work.now first end × (k < end) × FewTerminals n × (n ≡ terminal_count (records g.now)) }
     ensures { (result ≡ held_shifts_in (records g.now) (view work.now) first end k) × (result ≤ n) }
 {
-    let mut count: usize = 0;
-    for t in 0..n {
-        count += count_held(g, t, k, first, end, work);
-    }
-    count
+    (0..n)
+        .filter(|t| is_held(g, *t, k, first, end, work))
+        .count()
 }
 
-// 1 if the entry at place j is a reduction whose set meets that of the entry at place k, else 0.
-fn count_meeting(g: &[u8], k: usize, j: usize, end: usize, work: &[u64]) -> usize
+// The entry at place j is a reduction whose set meets that of the entry at place k.
+fn meets(g: &[u8], k: usize, j: usize, end: usize, work: &[u64]) -> bool
     requires { Readable g.now work.now k end × (k ≤ j) × (j < end) }
-    ensures { (result ≡ pick (meets_in (records g.now) (view work.now) k j) 1 0) × (result ≤ 1) }
+    ensures { result ≡ meets_in (records g.now) (view work.now) k j }
 {
-    if !at_end(g, item(work, j)) {
-        return 0;
-    }
-    if is_disjoint(work, entry_slot(k), entry_slot(j)) {
-        return 0;
-    }
-    1
+    at_end(g, item(work, j)) && !is_disjoint(work, entry_slot(k), entry_slot(j))
 }
 
 // How many of the reductions behind the entry at place k have sets that meet its own.
@@ -80,11 +67,7 @@ fn meeting(g: &[u8], k: usize, end: usize, work: &[u64]) -> usize
     ensures { (result ≡ meeting_in (records g.now) (view work.now) k end) × (result ≤ max_entries) }
 {
     let behind = k + 1;
-    let mut count: usize = 0;
-    for j in behind..end {
-        count += count_meeting(g, k, j, end, work);
-    }
-    count
+    (behind..end).filter(|j| meets(g, k, *j, end, work)).count()
 }
 
 // The conflicts of the entry at place k with shifts and with the reductions behind it.

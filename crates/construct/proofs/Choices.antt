@@ -28,17 +28,19 @@ use Rattle.construct.proofs.Frames.{table_kept}
 
 -- ---- one clone
 module _ (lanes : Lanes) (count s successor c o : ℕ) (v : Room) (low : c < count) (is : o ≡ origin_in v c) where
-  pub no_clone : (o ≡ successor → ⊥) → false ≡ joins_as_clone (table_of lanes v) (merge_in v count) s successor c
+  pub no_clone : (r : Bool) → r ≡ eqb o successor → (o ≡ successor → ⊥) → r ≡ joins_as_clone (table_of lanes v) (merge_in v count) s successor c
   unfolding joins_as_clone
-  no_clone ne = let e : eqb (origin_of (merge_in v count) c) successor ≡ false = ne_eqb _ _ (λ z. ne (is ∙ sym (origin_at v count c low) ∙ z)) in rw e
+  no_clone r tested ne =
+      let e : eqb (origin_of (merge_in v count) c) successor ≡ false = ne_eqb _ _ (λ z. ne (is ∙ sym (origin_at v count c low) ∙ z)) in
+      rw e (tested ∙ ne_eqb o successor ne)
 
   module _ (from : o ≡ successor) where
     cloned_from : eqb (origin_of (merge_in v count) c) successor ≡ true
     cloned_from = eq-eqb _ _ (origin_at v count c low ∙ sym is ∙ from)
 
-    pub clone_itself : c ≡ successor → false ≡ joins_as_clone (table_of lanes v) (merge_in v count) s successor c
+    pub clone_itself : (r : Bool) → r ≡ not (eqb c successor) → c ≡ successor → r ≡ joins_as_clone (table_of lanes v) (merge_in v count) s successor c
     unfolding joins_as_clone
-    clone_itself e = rw (cloned_from, eq-eqb c successor e)
+    clone_itself r tested e = rw (cloned_from, eq-eqb c successor e) (tested ∙ ap not (eq-eqb c successor e))
 
     pub clone_tested : (r : Bool) → (c ≡ successor → ⊥) → r ≡ can_join (table_of lanes v) (merge_in v count) s c → r ≡ joins_as_clone (table_of lanes v) (merge_in v count) s successor c
     unfolding joins_as_clone
@@ -53,8 +55,10 @@ module _ (lanes : Lanes) (count s successor : ℕ) (v q : Room) (only : OnlyClos
     test_is : b ≡ joins_as_clone (table_of lanes v) (merge_in v count) s successor c
     test_is = tested ∙ ap (λ (test : ℕ → Bool). test c) tests_stay
 
-    pub clone_found : b ≡ true → c ≡ t
-    clone_found e = first_at (joins_as_clone (table_of lanes v) (merge_in v count) s successor) count c t b here left test_is e
+    pub clone_found : b ≡ true → (c ≡ t) × (t < count)
+    clone_found e =
+        let at = first_at (joins_as_clone (table_of lanes v) (merge_in v count) s successor) count c t b here left test_is e in
+        (at, omega (arith, here))
 
     pub clone_passed : b ≡ false → first_from (joins_as_clone (table_of lanes v) (merge_in v count) s successor) (count - (c + 1)) (c + 1) ≡ t
     clone_passed e = first_turn (joins_as_clone (table_of lanes v) (merge_in v count) s successor) count c t b here left test_is e

@@ -6,6 +6,7 @@ use mathlib.Core.List.{List}
 use native.Mathlib.Omega.{arith}
 use lib.ListN.{length}
 use borrow.Author.Tests.{not-true, not-false}
+use Rattle.std.specs.Prelude.{Result, Ok, Err}
 use Rattle.base.proofs.ListLoops.{kept, kept_start}
 use Rattle.rules.specs.Limits.{limits, max_states}
 use Rattle.rules.specs.Records.{records}
@@ -14,7 +15,6 @@ use Rattle.rules.specs.States.{Outcome, done, refused, each_in_turn}
 use Rattle.rules.specs.Lanes.{LaneTable, row_of}
 use Rattle.rules.specs.Merge.{Merge, join_successor, successors_of, origin_of, row_of_origin, mark_walked}
 use Rattle.rules.specs.declared.BuildRefusal.{BuildRefusal}
-use Rattle.rules.specs.declared.StateIndex.{StateIndex}
 use Rattle.room.specs.Areas.{Room, view}
 use Rattle.room.specs.Bounds.{LongEnough}
 use Rattle.room.proofs.Lengths.{Lengths, view_lengths}
@@ -32,10 +32,7 @@ use Rattle.groups.proofs.Merged.{merge_count, origin_at, merge_parts}
 use Rattle.construct.specs.Merges.{OnlyMerge, Mergeable, Grown}
 use Rattle.construct.specs.Joins.{joining_in, JoinedTo, Joins}
 use Rattle.construct.specs.Walks.{outcome_in, WalkedTo, Walks}
-use Rattle.construct.specs.declared.Walked.{Walked}
-use Rattle.construct.specs.declared.Walked.TheVariants.{Done, Refused as WalkRefused}
 use Rattle.construct.specs.declared.Joined.{Joined}
-use Rattle.construct.specs.declared.Joined.TheVariants.{With, Refused as JoinRefused}
 use Rattle.construct.proofs.Frames.{state_limit, only_none, only_both, table_kept, rows_length, row_successors, ready_with}
 
 -- ---- a state walked
@@ -85,14 +82,14 @@ module _ (bytes : List ℕ) (lanes : Lanes) (s row count : ℕ) (w : List ℕ) (
   }
 
 -- ---- a successor was joined
-module _ (bytes : List ℕ) (lanes : Lanes) (s successor count : ℕ) (q : Room) (x : Joined) (u : Room) (joins : Joins bytes lanes s successor count q x u) (to : StateIndex) (more : ℕ) (is : x ≡ With to more) where
-  joined_to : Grown bytes lanes count more u × (to.0 < more)
-  joined_to = subst (λ (y : Joined). JoinedTo bytes lanes count y u) is joins.left
+module _ (bytes : List ℕ) (lanes : Lanes) (s successor count : ℕ) (q : Room) (x : Result Joined BuildRefusal) (u : Room) (joins : Joins bytes lanes s successor count q x u) (j : Joined) (is : x ≡ Ok j) where
+  joined_to : Grown bytes lanes count j.states u × (j.state.0 < j.states)
+  joined_to = subst (λ y. JoinedTo bytes lanes count y u) is joins.left
 
-  pub joined_ready : Mergeable bytes lanes more u
+  pub joined_ready : Mergeable bytes lanes j.states u
   joined_ready = joined_to.0.ready
 
-  pub joined_low : to.0 < more
+  pub joined_low : j.state.0 < j.states
   joined_low = joined_to.1
 
 -- ---- a turn
@@ -113,66 +110,66 @@ module _ (bytes : List ℕ) (lanes : Lanes) (s row begun count next : ℕ) (v q 
   over = ap (λ (table : LaneTable). gone_on limits (records bytes) (table_of lanes v) (join_successor limits (records bytes) table s next (merge_in q count))) (sym going.same_table)
 
   -- a successor is joined
-  module _ (new : not d ≡ false) (x : Joined) (u : Room) (joins : Joins bytes lanes s next count q x u) where
+  module _ (new : not d ≡ false) (x : Result Joined BuildRefusal) (u : Room) (joins : Joins bytes lanes s next count q x u) where
     over_is : over_successor limits (records bytes) (table_of lanes v) s next (merge_in q count) ≡ gone_on limits (records bytes) (table_of lanes v) (joining_in x u)
     over_is = over ∙ ap (gone_on limits (records bytes) (table_of lanes v)) (sym joins.outcome)
 
-    went_none : (why : BuildRefusal) → x ≡ JoinRefused why → gone_on limits (records bytes) (table_of lanes v) (joining_in x u) ≡ refused why
+    went_none : (why : BuildRefusal) → x ≡ Err why → gone_on limits (records bytes) (table_of lanes v) (joining_in x u) ≡ refused why
     unfolding gone_on joining_in
-    went_none why e = ap (λ (y : Joined). gone_on limits (records bytes) (table_of lanes v) (joining_in y u)) e
+    went_none why e = ap (λ (y : Result Joined BuildRefusal). gone_on limits (records bytes) (table_of lanes v) (joining_in y u)) e
 
-    join_refused : (why : BuildRefusal) → x ≡ JoinRefused why → refused why ≡ t
+    join_refused : (why : BuildRefusal) → x ≡ Err why → refused why ≡ t
     unfolding walk_rest
     join_refused why e = turn_refused _ _ lanes.states next (merge_in q count) t left here (test_is ∙ not-false d new) why (over_is ∙ went_none why e)
 
-    module _ (to : StateIndex) (more : ℕ) (is : x ≡ With to more) where
-      went_on : gone_on limits (records bytes) (table_of lanes v) (joining_in x u) ≡ walked limits (records bytes) (table_of lanes v) to.0 (merge_in u more)
+    module _ (j : Joined) (is : x ≡ Ok j) where
+      went_on : gone_on limits (records bytes) (table_of lanes v) (joining_in x u) ≡ walked limits (records bytes) (table_of lanes v) j.state.0 (merge_in u j.states)
       unfolding gone_on joining_in
-      went_on = ap (λ (y : Joined). gone_on limits (records bytes) (table_of lanes v) (joining_in y u)) is
+      went_on = ap (λ (y : Result Joined BuildRefusal). gone_on limits (records bytes) (table_of lanes v) (joining_in y u)) is
 
-      same_left : walks_left limits (merge_in u more) ≡ walks_left limits (merge_in q count)
+      same_left : walks_left limits (merge_in u j.states) ≡ walks_left limits (merge_in q count)
       unfolding joining_in
       same_left =
           joining_left limits (records bytes) (table_of lanes q) (omega (arith, rows_length lanes q, going.ready.grouped.rows, few, state_limit)) (merge_in q count) (omega (arith, merge_count q count, few, state_limit)) s next
-          (record { merge = merge_in u more; state = to.0 }) (omega (arith, going.ready.grouped.rows, few, state_limit)) (ap (λ (y : Joined). joining_in y u) (sym is) ∙ joins.outcome)
+          (record { merge = merge_in u j.states; state = j.state.0 }) (omega (arith, going.ready.grouped.rows, few, state_limit)) (ap (λ (y : Result Joined BuildRefusal). joining_in y u) (sym is) ∙ joins.outcome)
 
       joined_table : table_of lanes u ≡ table_of lanes v
       joined_table = table_kept q u joins.only lanes ∙ going.same_table
 
       -- and the walk goes on there
-      module _ (y : Walked) (z : Room) (walks : Walks bytes lanes to.0 more u y z) where
+      module _ (y : Result ℕ BuildRefusal) (z : Room) (walks : Walks bytes lanes j.state.0 j.states u y z) where
         walked_is : over_successor limits (records bytes) (table_of lanes v) s next (merge_in q count) ≡ outcome_in y z
-        walked_is = over_is ∙ went_on ∙ ap (λ table. walked limits (records bytes) table to.0 (merge_in u more)) (sym joined_table) ∙ sym walks.outcome
+        walked_is = over_is ∙ went_on ∙ ap (λ table. walked limits (records bytes) table j.state.0 (merge_in u j.states)) (sym joined_table) ∙ sym walks.outcome
 
-        none_left : (why : BuildRefusal) → y ≡ WalkRefused why → outcome_in y z ≡ refused why
+        none_left : (why : BuildRefusal) → y ≡ Err why → outcome_in y z ≡ refused why
         unfolding outcome_in
-        none_left why e = ap (λ (o : Walked). outcome_in o z) e
+        none_left why e = ap (λ (o : Result ℕ BuildRefusal). outcome_in o z) e
 
-        walk_refused : (why : BuildRefusal) → y ≡ WalkRefused why → refused why ≡ t
+        walk_refused : (why : BuildRefusal) → y ≡ Err why → refused why ≡ t
         unfolding walk_rest
         walk_refused why e = turn_refused _ _ lanes.states next (merge_in q count) t left here (test_is ∙ not-false d new) why (walked_is ∙ none_left why e)
 
-        module _ (many : ℕ) (ends : y ≡ Done many) where
+        module _ (many : ℕ) (ends : y ≡ Ok many) where
           done_is : outcome_in y z ≡ done (merge_in z many)
           unfolding outcome_in
-          done_is = ap (λ (o : Walked). outcome_in o z) ends
+          done_is = ap (λ (o : Result ℕ BuildRefusal). outcome_in o z) ends
 
           pub walk_done : walk_rest bytes lanes s row v (next + 1) (merge_in z many) ≡ t
           unfolding walk_rest
           walk_done = turn_done _ _ lanes.states next (merge_in q count) t left here (test_is ∙ not-false d new) (merge_in z many) (walked_is ∙ done_is)
 
-          walked_to : Grown bytes lanes more many z
-          walked_to = subst (λ (o : Walked). WalkedTo bytes lanes more o z) ends walks.left
+          walked_to : Grown bytes lanes j.states many z
+          walked_to = subst (λ (o : Result ℕ BuildRefusal). WalkedTo bytes lanes j.states o z) ends walks.left
 
           pub going_on : Going bytes lanes s row begun many v z
           going_on = record {
             ready = walked_to.ready;
-            grown = omega (arith, going.grown, (joined_to bytes lanes s next count q x u joins to more is).0.grown, walked_to.grown);
-            inside = omega (arith, going.inside, (joined_to bytes lanes s next count q x u joins to more is).0.grown, walked_to.grown);
+            grown = omega (arith, going.grown, (joined_to bytes lanes s next count q x u joins j is).0.grown, walked_to.grown);
+            inside = omega (arith, going.inside, (joined_to bytes lanes s next count q x u joins j is).0.grown, walked_to.grown);
             row_inside = going.row_inside;
             only = only_both v q z going.only (only_both q u z joins.only walks.only);
             same_table = table_kept u z walks.only lanes ∙ joined_table;
-            fewer = omega (arith, going.fewer, same_left, walk_left limits (records bytes) (table_of lanes u) (omega (arith, rows_length lanes u, going.ready.grouped.rows, few, state_limit)) (merge_in u more) (omega (arith, merge_count u more, (joined_to bytes lanes s next count q x u joins to more is).0.ready.placed.few, state_limit)) to.0 (merge_in z many) (sym done_is ∙ walks.outcome));
+            fewer = omega (arith, going.fewer, same_left, walk_left limits (records bytes) (table_of lanes u) (omega (arith, rows_length lanes u, going.ready.grouped.rows, few, state_limit)) (merge_in u j.states) (omega (arith, merge_count u j.states, (joined_to bytes lanes s next count q x u joins j is).0.ready.placed.few, state_limit)) j.state.0 (merge_in z many) (sym done_is ∙ walks.outcome));
           }
 
 -- ---- the whole walk, from the room w to the room z
@@ -184,7 +181,7 @@ module _ (bytes : List ℕ) (lanes : Lanes) (s count : ℕ) (w : List ℕ) (b : 
   unfolding merge_in
   was = sym tested
 
-  pub walk_stops : b ≡ true → Walks bytes lanes s count (view w) (Done count) (view w)
+  pub walk_stops : b ≡ true → Walks bytes lanes s count (view w) (Ok count) (view w)
   unfolding outcome_in
   walk_stops e = record {
     outcome = sym (walk_seen limits (records bytes) (table_of lanes (view w)) s (merge_in (view w) count) (was ∙ e));
@@ -229,12 +226,12 @@ module _ (bytes : List ℕ) (lanes : Lanes) (s count : ℕ) (w : List ℕ) (b : 
         unfolding walk_rest
         ended over = turn_end _ _ lanes.states next (merge_in q now) _ left over
 
-        pub walk_ends : lanes.states ≤ next → Walks bytes lanes s count (view w) (Done now) q
+        pub walk_ends : lanes.states ≤ next → Walks bytes lanes s count (view w) (Ok now) q
         unfolding outcome_in
         walk_ends over = record { outcome = ended over ∙ whole; only = only_so_far; left = record { ready = going.ready; grown = going.grown } }
 
-        module _ (d : Bool) (here : next < lanes.states) (succeeds : d ≡ has (successors_in q row) next) (hit : not d ≡ false) (x : Joined) (u : Room) (joins : Joins bytes lanes s next now q x u) where
-          pub walk_ends_joining : (why : BuildRefusal) → x ≡ JoinRefused why → Walks bytes lanes s count (view w) (WalkRefused why) u
+        module _ (d : Bool) (here : next < lanes.states) (succeeds : d ≡ has (successors_in q row) next) (hit : not d ≡ false) (x : Result Joined BuildRefusal) (u : Room) (joins : Joins bytes lanes s next now q x u) where
+          pub walk_ends_joining : (why : BuildRefusal) → x ≡ Err why → Walks bytes lanes s count (view w) (Err why) u
           unfolding outcome_in
           walk_ends_joining why e = record {
             outcome = join_refused bytes lanes s row count now next v q d _ going here succeeds left hit x u joins why e ∙ whole;
@@ -242,14 +239,14 @@ module _ (bytes : List ℕ) (lanes : Lanes) (s count : ℕ) (w : List ℕ) (b : 
             left = tt;
           }
 
-          module _ (to : StateIndex) (more : ℕ) (with : x ≡ With to more) where
-            pub joined_falls : (t : ℕ) → walks_left limits (merge_in (view w) count) ≡ t → walks_left limits (merge_in u more) < t
-            joined_falls t is = omega (arith, falls, going.fewer, same_left bytes lanes s row count now next v q d _ going here succeeds left hit x u joins to more with)
+          module _ (j : Joined) (with : x ≡ Ok j) where
+            pub joined_falls : (t : ℕ) → walks_left limits (merge_in (view w) count) ≡ t → walks_left limits (merge_in u j.states) < t
+            joined_falls t is = omega (arith, falls, going.fewer, same_left bytes lanes s row count now next v q d _ going here succeeds left hit x u joins j with)
 
-            pub walk_ends_walking : (y : Walked) (z : Room) → Walks bytes lanes to.0 more u y z → (why : BuildRefusal) → y ≡ WalkRefused why → Walks bytes lanes s count (view w) (WalkRefused why) z
+            pub walk_ends_walking : (y : Result ℕ BuildRefusal) (z : Room) → Walks bytes lanes j.state.0 j.states u y z → (why : BuildRefusal) → y ≡ Err why → Walks bytes lanes s count (view w) (Err why) z
             unfolding outcome_in
             walk_ends_walking y z walks why e = record {
-              outcome = walk_refused bytes lanes s row count now next v q d _ going here succeeds left hit x u joins to more with y z walks why e ∙ whole;
+              outcome = walk_refused bytes lanes s row count now next v q d _ going here succeeds left hit x u joins j with y z walks why e ∙ whole;
               only = only_both (view w) q z only_so_far (only_both q u z joins.only walks.only);
               left = tt;
             }

@@ -6,6 +6,8 @@ use mathlib.Core.List.{List}
 use native.Mathlib.Omega.{arith}
 use lib.ListN.{length}
 use borrow.Author.Tests.{eq-eqb, ne_eqb}
+use Rattle.std.specs.Prelude.{Result, Ok}
+use Rattle.rules.specs.declared.BuildRefusal.{BuildRefusal}
 use Rattle.base.specs.Loops.{first_from}
 use Rattle.rules.specs.Limits.{limits}
 use Rattle.rules.specs.Records.{records}
@@ -22,7 +24,6 @@ use Rattle.clones.specs.Clones.{Patched}
 use Rattle.construct.specs.Merges.{OnlyMerge, Mergeable}
 use Rattle.construct.specs.Joins.{joining_in, joins_as_clone, Joins, JoinsNew}
 use Rattle.construct.specs.declared.Joined.{Joined}
-use Rattle.construct.specs.declared.Joined.TheVariants.{With}
 use Rattle.construct.proofs.Changes.{closure_merge, closure_only, closure_ready, regrouped_only, regrouped_ready, patched_merge, patched_only, patched_ready}
 use Rattle.construct.proofs.Choices.{tests_stay, clone_other, takes_successor, takes_clone, takes_new}
 use Rattle.construct.proofs.Frames.{only_both, table_kept}
@@ -53,7 +54,7 @@ module _ (bytes : List ℕ) (lanes : Lanes) (s successor count : ℕ) (v u : Roo
   low_successor : successor < count
   low_successor = omega (arith, ready.grouped.rows)
 
-  pub joins_itself : (to : StateIndex) → to.0 ≡ successor → b ≡ true → (q : Room) → Regrouped s successor count u q → Joins bytes lanes s successor count v (With to count) q
+  pub joins_itself : (to : StateIndex) → to.0 ≡ successor → b ≡ true → (q : Room) → Regrouped s successor count u q → Joins bytes lanes s successor count v (Ok (record { state = to; states = count })) q
   unfolding joining_in
   joins_itself to is e q regrouped = record {
     outcome = rw is (ap (λ (m : Merge). done (record { merge = m; state = successor })) (itself_joined bytes lanes s successor count u q (closure_ready v u scratched bytes lanes count ready) low low_successor regrouped successor refl ∙ ap (joined (records bytes) s successor successor) (closure_merge v u scratched count))
@@ -89,7 +90,7 @@ module _ (bytes : List ℕ) (lanes : Lanes) (s successor count : ℕ) (v u : Roo
       pub then_placed : PlacedAt (length (records bytes)) x s
       then_placed = (regrouped_ready s c count w x regrouped bytes lanes ready_then).placed.each s low
 
-      pub joins_clone : (q : Room) → Patched (records bytes) s successor c x q → Joins bytes lanes s successor count v (With (record { 0 = c }) count) q
+      pub joins_clone : (q : Room) → Patched (records bytes) s successor c x q → Joins bytes lanes s successor count v (Ok (record { state = record { 0 = c }; states = count })) q
       unfolding joining_in
       joins_clone q patched = record {
         outcome = ap (λ (m : Merge). done (record { merge = m; state = c })) (clone_joined bytes lanes s c count w x ready_then low here regrouped successor q patched (clone_other (table_of lanes v) (merge_in v count) s successor count c first_is here) ∙ ap (joined (records bytes) s successor c) merge_then)
@@ -98,7 +99,7 @@ module _ (bytes : List ℕ) (lanes : Lanes) (s successor count : ℕ) (v u : Roo
         left = (record { ready = clone_ready bytes lanes s c count w x ready_then low here regrouped successor q patched; grown = omega arith }, here);
       }
 
-    pub joins_new : (r : Joined) (q : Room) → count ≤ c → JoinsNew bytes lanes s successor count w r q → Joins bytes lanes s successor count v r q
+    pub joins_new : (r : Result Joined BuildRefusal) (q : Room) → count ≤ c → JoinsNew bytes lanes s successor count w r q → Joins bytes lanes s successor count v r q
     joins_new r q over new = record {
       outcome = new.outcome ∙ ap₂ (λ table m. with_new count (join_new limits (records bytes) table s successor m)) table_then merge_then
           ∙ sym (takes_new (records bytes) (table_of lanes v) s successor count (merge_in v count) (merge_count v count) fails c first_is over);

@@ -7,6 +7,7 @@ use native.Mathlib.Omega.{arith}
 use lib.ListN.{length, get_or}
 use lib.Dec.{leb, ltb}
 use borrow.Author.Tests.{not-true, not-false, le-leb, lt-leb, lt-ltb, le-ltb}
+use Rattle.std.specs.Prelude.{Ok, Err}
 use Rattle.base.specs.Lists.{sum}
 use Rattle.rules.specs.Limits.{limits, max_states, max_entries}
 use Rattle.rules.specs.Records.{records}
@@ -26,7 +27,6 @@ use Rattle.groups.proofs.Merged.{merge_count}
 use Rattle.clones.specs.Clones.{size_of, Cloneable, Cloned, Patched}
 use Rattle.construct.specs.Merges.{OnlyMerge, Mergeable}
 use Rattle.construct.specs.Joins.{joining_in, JoinsNew}
-use Rattle.construct.specs.declared.Joined.TheVariants.{With, Refused as JoinRefused}
 use Rattle.construct.proofs.Changes.{closure_merge, closure_only, closure_ready, regrouped_ready}
 use Rattle.construct.proofs.Cloning.{cloned_merge, cloned_only, cloned_ready}
 use Rattle.construct.proofs.Frames.{state_limit, item_limit, only_none, only_both, table_kept}
@@ -43,7 +43,7 @@ sum_last f (y ∷ l) x = omega (arith, sum_last f l x)
 
 -- ---- a new clone, from the room w
 module _ (bytes : List ℕ) (lanes : Lanes) (s successor count : ℕ) (w : List ℕ) (ready : Mergeable bytes lanes count (view w)) (low : s < count) (next : successor < count) where
-  pub new_full : max_states ≤ count → JoinsNew bytes lanes s successor count (view w) (JoinRefused TooManyStates) (view w)
+  pub new_full : max_states ≤ count → JoinsNew bytes lanes s successor count (view w) (Err TooManyStates) (view w)
   unfolding joining_in join_new with_new
   new_full full = record {
     outcome = rw (le-leb limits.states (length (merge_in (view w) count).states) (omega (arith, state_limit, merge_count (view w) count)));
@@ -73,7 +73,7 @@ module _ (bytes : List ℕ) (lanes : Lanes) (s successor count : ℕ) (w : List 
     total : first_of (view w) count + size_of (view w) successor ≡ at + (end - first)
     total = rw (is-first, is_end, is_at)
 
-    pub new_crowded : max_entries < at + (end - first) → JoinsNew bytes lanes s successor count (view w) (JoinRefused TooManyItems) (view w)
+    pub new_crowded : max_entries < at + (end - first) → JoinsNew bytes lanes s successor count (view w) (Err TooManyItems) (view w)
     unfolding joining_in join_new with_new
     new_crowded crowded = record {
       outcome = rw (states_fit, lt-ltb limits.items (item_count (clone_state successor (merge_in (view w) count)).states) (omega (arith, item_limit, items_total, total)));
@@ -123,7 +123,7 @@ module _ (bytes : List ℕ) (lanes : Lanes) (s successor count : ℕ) (w : List 
           merge_tested : merge_in z (count + 1) ≡ clone_state successor (merge_in (view w) count)
           merge_tested = closure_merge u z scratched (count + 1) ∙ new_merge
 
-          pub new_fails : not b ≡ true → (n : ℕ) → n ≡ conflict_count (records bytes) (states_in z (count + 1)) → JoinsNew bytes lanes s successor count (view w) (JoinRefused (Conflicts n)) z
+          pub new_fails : not b ≡ true → (n : ℕ) → n ≡ conflict_count (records bytes) (states_in z (count + 1)) → JoinsNew bytes lanes s successor count (view w) (Err (Conflicts n)) z
           unfolding joining_in join_new with_new
           new_fails failed n is = record {
             outcome = rw (states_fit, items_fit, joins_is ∙ not-true b failed) (ap (λ k. refused (Conflicts k)) (is ∙ ap (conflict_count (records bytes)) (sym (merge_states z (count + 1)) ∙ ap (λ (m : Merge). m.states) merge_tested)));
@@ -141,7 +141,7 @@ module _ (bytes : List ℕ) (lanes : Lanes) (s successor count : ℕ) (w : List 
             pub new_placed : PlacedAt (length (records bytes)) x s
             new_placed = (regrouped_ready s count (count + 1) z x regrouped bytes lanes tested_ready).placed.each s within
 
-            pub new_joins : not b ≡ false → (q : Room) → Patched (records bytes) s successor count x q → JoinsNew bytes lanes s successor count (view w) (With (record { 0 = count }) (count + 1)) q
+            pub new_joins : not b ≡ false → (q : Room) → Patched (records bytes) s successor count x q → JoinsNew bytes lanes s successor count (view w) (Ok (record { state = record { 0 = count }; states = count + 1 })) q
             unfolding joining_in join_new with_new
             new_joins joining q patched = record {
               outcome = rw (states_fit, items_fit, joins_is ∙ not-false b joining)

@@ -112,19 +112,16 @@ module _ (into from : ℕ) (v : Room) where
 pub pairs_start : (r : Room) (at width : ℕ) → pairwise_disjoint (columns_up_to r at (at + width)) ≡ pairwise_disjoint (columns_at r at width)
 pairs_start r at width = let z : at + width - at ≡ width = omega arith in rw z
 
-module _ (r : Room) (end slot : ℕ) (v : Bool) where
-  pub pairs_turn : (b : Bool) → slot < end → pairwise_disjoint (columns_up_to r slot end) ≡ v → b ≡ each_of (disjoint (set_at r slot)) (columns_up_to r (slot + 1) end) → not b ≡ false → pairwise_disjoint (columns_up_to r (slot + 1) end) ≡ v
+-- the columns from one on, by whether it shares no token with those behind it
+module _ (r : Room) (end slot : ℕ) where
+  pub pairs_fail : slot < end → each_of (disjoint (set_at r slot)) (columns_up_to r (slot + 1) end) ≡ false → pairwise_disjoint (columns_up_to r slot end) ≡ false
   unfolding pairwise_disjoint
-  pairs_turn b h e p z =
-      let q : each_of (disjoint (set_at r slot)) (columns_up_to r (slot + 1) end) ≡ true = sym p ∙ not-false b z in
-      rw q at (rw (each_more (load_set r.sets) end slot h) at e)
+  pairs_fail h e = rw (each_more (load_set r.sets) end slot h, e)
 
-  pub pairs_fail : (b : Bool) → slot < end → pairwise_disjoint (columns_up_to r slot end) ≡ v → b ≡ each_of (disjoint (set_at r slot)) (columns_up_to r (slot + 1) end) → not b ≡ true → false ≡ v
+  pub pairs_turn : slot < end → each_of (disjoint (set_at r slot)) (columns_up_to r (slot + 1) end) ≡ true → pairwise_disjoint (columns_up_to r slot end) ≡ pairwise_disjoint (columns_up_to r (slot + 1) end)
   unfolding pairwise_disjoint
-  pairs_fail b h e p z =
-      let q : each_of (disjoint (set_at r slot)) (columns_up_to r (slot + 1) end) ≡ false = sym p ∙ not-true b z in
-      rw q at (rw (each_more (load_set r.sets) end slot h) at e)
+  pairs_turn h e = rw (each_more (load_set r.sets) end slot h, e)
 
-  pub pairs_end : end ≤ slot → pairwise_disjoint (columns_up_to r slot end) ≡ v → true ≡ v
+  pub pairs_end : end ≤ slot → pairwise_disjoint (columns_up_to r slot end) ≡ true
   unfolding pairwise_disjoint
-  pairs_end h e = rw (each_none (load_set r.sets) end slot h) at e
+  pairs_end h = rw (each_none (load_set r.sets) end slot h)

@@ -6,7 +6,7 @@ ghost use Rattle.base.specs.Lists.{each_of};
 ghost use Rattle.rules.specs.Tokens.{disjoint};
 ghost use Rattle.rules.specs.Lanes.{pairwise_disjoint};
 ghost use Rattle.room.specs.Areas.{view};
-ghost use Rattle.room.specs.Bounds.{LongEnough, slot_count};
+ghost use Rattle.room.specs.Bounds.{LongEnough, IsSlot, slot_count};
 ghost use Rattle.lookahead.specs.Sets.{set_at};
 ghost use Rattle.context_set.specs.Columns.{columns_at, columns_up_to, columns_joined, Columned};
 
@@ -38,12 +38,11 @@ fn disjoint_behind(work: &[u64], slot: usize, end: usize) -> bool
     ensures { result ≡ each_of (disjoint (set_at (view work.now) slot)) (columns_up_to (view work.now) (slot + 1) end) }
 {
     let first = slot + 1;
-    for other in first..end {
-        if !is_disjoint(work, slot, other) {
-            return false;
-        }
-    }
-    true
+    (first..end).all(
+        |other|
+            requires { LongEnough work.now × IsSlot slot × IsSlot other }
+        { is_disjoint(work, slot, other) },
+    )
 }
 
 // No two columns share a token. context_set/mod.rs: the test of union
@@ -52,10 +51,5 @@ pub fn columns_disjoint(work: &[u64], width: usize, at: usize) -> bool
     ensures { result ≡ pairwise_disjoint (columns_at (view work.now) at width) }
 {
     let end = at + width;
-    for slot in at..end {
-        if !disjoint_behind(work, slot, end) {
-            return false;
-        }
-    }
-    true
+    (at..end).all(|slot| disjoint_behind(work, slot, end))
 }

@@ -4,6 +4,7 @@ use mathlib.Core.Path.{◌≡◌}
 use mathlib.Core.List.{List}
 use native.Mathlib.Omega.{arith}
 use lib.ListN.{length}
+use Rattle.std.specs.Prelude.{Ok}
 use Rattle.rules.specs.Limits.{Limits}
 use Rattle.rules.specs.Records.{Grammar, records}
 use Rattle.rules.specs.Grammar.{grammar_answer}
@@ -12,7 +13,6 @@ use Rattle.rules.specs.States.{State, done, canonical}
 use Rattle.rules.specs.Merge.{lanes}
 use Rattle.rules.specs.FinalCheck.{checked as final_checked}
 use Rattle.rules.specs.Build.{constructed}
-use Rattle.rules.specs.declared.GrammarAnswer.TheVariants.{Coded}
 use Rattle.knuth.specs.Coded.{Checked}
 use Rattle.knuth.specs.LR1.{IsLR1}
 use Rattle.knuth.proofs.Coded.{coded_is_checked, coded_has_a_record}
@@ -35,7 +35,7 @@ by_mode P l g states lane canon zero e = lane e
 by_mode P l g states lane canon (suc zero) e = canon e
 by_mode P l g states lane canon (suc (suc mode)) e = absurd (let z : ◌≡◌ {A = ℕ} 0 1 = cc in omega arith)
 
-module _ (l : Limits) (a-state : 0 < l.states) (bytes : List ℕ) (coded : grammar_answer l bytes ≡ Coded)
+module _ (l : Limits) (a-state : 0 < l.states) (bytes : List ℕ) (coded : grammar_answer l bytes ≡ Ok tt)
     (states : List State) (mode : ℕ) (gives : constructed l (records bytes) mode ≡ done states) where
   abbrev g : Grammar
   g = records bytes

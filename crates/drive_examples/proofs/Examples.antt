@@ -4,16 +4,18 @@ use Prim.Native.Nat.{ℕ}
 use mathlib.Core.Path.{◌≡◌, ap}
 use mathlib.Core.List.{List, [], ◌∷◌}
 use lib.ListN.{replicate}
+use Rattle.std.specs.Prelude.{Result}
 use Rattle.rules.specs.Limits.{limits}
 use Rattle.rules.specs.Table.{table_bytes}
 use Rattle.rules.specs.Drive.{DriveResult, drive}
 use Rattle.rules.specs.Answers.{Said, accepted, stopped, drive_said}
-use Rattle.rules.specs.declared.DriveAnswer.{DriveAnswer}
+use Rattle.rules.specs.declared.DriveRefusal.{DriveRefusal}
+use Rattle.rules.specs.declared.RunAnswer.{RunAnswer}
 use Rattle.rules.proofs.Coding.{r}
 use Rattle.rules.proofs.Examples.{driven1, example6}
 use Rattle.driver.specs.Results.{drove_in}
 
-module _ (answer : DriveAnswer) (stack list : List ℕ) where
+module _ (answer : Result RunAnswer DriveRefusal) (stack list : List ℕ) where
   abbrev Gives : Said → List ℕ → List ℕ → Type 0
   Gives said states productions = (drive_said answer ≡ said) × (stack ≡ states) × (list ≡ productions)
 

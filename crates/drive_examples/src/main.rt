@@ -2,20 +2,14 @@
 // cells of the stack and those of the list. Each cell is 9 before the call.
 #![tactic(auto)]
 
+use answers::Said;
 use std::io;
-
-// Writes a blank and the number of a cell.
-fn write_cell(to: &impl Print, cell: u16) -> io::Result<()> {
-    to.write_all(b" ")?;
-    to.print(cell)
-}
 
 // Writes a word and the cells of a room.
 fn write_cells(to: &impl Print, word: &[u8], cells: &[u16]) -> io::Result<()> {
     to.write_all(word)?;
-    let count = cells.len();
-    for i in 0..count {
-        write_cell(to, cells[i])?;
+    for cell in cells {
+        to.print(format_args!(" {cell}"))?;
     }
     Ok(())
 }
@@ -34,7 +28,7 @@ fn run_example(
     to.write_all(name)?;
     let answer = driver::drive(grammar, table, tokens, limit, stack, list);
     to.write_all(b": ")?;
-    text::write_words(to, answers::drive_said(answer))?;
+    to.print(Said::from(answer))?;
     write_cells(to, b", stack", stack)?;
     write_cells(to, b", list", list)?;
     to.write_all(b"\n")

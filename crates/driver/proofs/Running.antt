@@ -11,9 +11,8 @@ use Rattle.rules.specs.Run as run
 use Rattle.rules.specs.declared.RunEnd.{RunEnd}
 use Rattle.rules.specs.declared.RunEnd.TheVariants.{StackFull}
 use Rattle.driver.specs.declared.moves.Standing.{Standing}
-use Rattle.driver.specs.declared.moves.Moved.{Moved}
-use Rattle.driver.specs.declared.moves.Moved.TheVariants.{Goes, Ends}
-use Rattle.driver.specs.Standings.{Stands, standing, moved}
+use Rattle.std.proofs.Common.{Continue, Break}
+use Rattle.driver.specs.Standings.{Moved, Stands, standing, moved}
 use Rattle.driver.specs.Results.{ran_in}
 use Rattle.driver.proofs.Keeps.{Kept, move_keeps}
 
@@ -41,15 +40,15 @@ module _ (table : run.Table ℕ) (g : Grammar) (tokens : List ℕ) (limit fuel :
 -- ---- a turn from s, where what is left of the run gives x; m is the move
 module _ (rs : List TableRecord) (g : Grammar) (tokens : List ℕ) (limit : ℕ) (stack list : List ℕ) (s : Standing) (stack' list' : List ℕ) (m : Moved)
     (stands : Stands limit stack s) (e : moved stack' list' m ≡ run.move (table_in rs) g tokens limit (standing stack list s)) where
-  kept : (s' : Standing) → m ≡ Goes s' → Kept limit (standing stack list s) (standing stack' list' s')
+  kept : (s' : Standing) → m ≡ Continue s' → Kept limit (standing stack list s) (standing stack' list' s')
   kept s' h = rw h at (rw (sym e) at (move_keeps limit (standing stack list s) stands.placed (table_in rs) g tokens))
 
-  pub turn_stands : (s' : Standing) → m ≡ Goes s' → Stands limit stack' s'
+  pub turn_stands : (s' : Standing) → m ≡ Continue s' → Stands limit stack' s'
   turn_stands s' h =
       let k = kept s' h in
       record { grounded = k.grounded; within = k.within; placed = k.placed; limited = k.limited }
 
-  pub turn_less : (s' : Standing) → m ≡ Goes s' → limit - s'.steps < limit - s.steps
+  pub turn_less : (s' : Standing) → m ≡ Continue s' → limit - s'.steps < limit - s.steps
   turn_less s' h = let k = kept s' h in let c = k.counted in let l = k.limited in omega arith
 
   module _ (x : run.RunResult ℕ) (left : run.run_from (table_in rs) g tokens limit (limit + 1 - s.steps) (standing stack list s) ≡ x) where
@@ -59,7 +58,7 @@ module _ (rs : List TableRecord) (g : Grammar) (tokens : List ℕ) (limit : ℕ)
         let w : limit + 1 - s.steps ≡ suc (limit - s.steps) = omega arith in
         rw w at left
 
-    pub turn_left : (s' : Standing) → m ≡ Goes s'
+    pub turn_left : (s' : Standing) → m ≡ Continue s'
         → run.run_from (table_in rs) g tokens limit (limit + 1 - s'.steps) (standing stack' list' s') ≡ x
     turn_left s' h =
         let k = kept s' h in
@@ -69,7 +68,7 @@ module _ (rs : List TableRecord) (g : Grammar) (tokens : List ℕ) (limit : ℕ)
         let goes : run.goes (standing stack' list' s') ≡ run.move (table_in rs) g tokens limit (standing stack list s) = rw h at e in
         rw w (sym (run_goes (table_in rs) g tokens limit (limit - s.steps) (standing stack list s) (standing stack' list' s') goes) ∙ fuelled)
 
-    pub run_ends : (end : RunEnd) (s' : Standing) → m ≡ Ends end s'
+    pub run_ends : (end : RunEnd) (s' : Standing) → m ≡ Break (end, s')
         → ran_in (record { end = end; place = s'.place; steps = s'.steps; listed = s'.listed }) stack' list' ≡ x
     unfolding run.answered
     run_ends end s' h =

@@ -2,15 +2,15 @@
 use Prim.Native.Nat.{ℕ}
 use mathlib.Core.Path.{◌≡◌, refl, sym, ap, ◌∙◌}
 use mathlib.Core.List.{List}
+use Rattle.std.specs.Prelude.{Result}
 use Rattle.rules.specs.Run as run
 use Rattle.rules.specs.Run.{RunResult}
 use Rattle.rules.specs.Drive.{DriveResult}
 use Rattle.rules.specs.declared.RunAnswer.{RunAnswer}
-use Rattle.rules.specs.declared.DriveAnswer.{DriveAnswer}
+use Rattle.rules.specs.declared.DriveRefusal.{DriveRefusal}
 use Rattle.driver.specs.declared.moves.Standing.{Standing}
-use Rattle.driver.specs.declared.moves.Moved.{Moved}
-use Rattle.driver.specs.declared.moves.Moved.TheVariants.{Goes, Ends}
-use Rattle.driver.specs.Standings.{moved}
+use Rattle.std.proofs.Common.{Continue, Break}
+use Rattle.driver.specs.Standings.{Moved, moved}
 use Rattle.driver.specs.Results.{ran_in, drove_in}
 
 -- a move's answer and rooms are seen in what it says
@@ -22,21 +22,21 @@ abbrev without_rooms : run.Standing ℕ → Standing
 without_rooms s = record { depth = s.depth; listed = s.listed; steps = s.steps; place = s.place }
 
 abbrev moved_by : run.Moved ℕ → Moved
-moved_by (run.goes s) = Goes (without_rooms s)
-moved_by (run.ends end s) = Ends end (without_rooms s)
+moved_by (run.goes s) = Continue (without_rooms s)
+moved_by (run.ends end s) = Break (end, without_rooms s)
 
 module _ (stack list : List ℕ) where
   moved_back : (m : Moved) → moved_by (moved stack list m) ≡ m
-  moved_back (Goes s) = refl
-  moved_back (Ends end s) = refl
+  moved_back (Continue s) = refl
+  moved_back (Break (end, s)) = refl
 
   stack_back : (m : Moved) → (standing_of (moved stack list m)).stack ≡ stack
-  stack_back (Goes s) = refl
-  stack_back (Ends end s) = refl
+  stack_back (Continue s) = refl
+  stack_back (Break (end, s)) = refl
 
   list_back : (m : Moved) → (standing_of (moved stack list m)).list ≡ list
-  list_back (Goes s) = refl
-  list_back (Ends end s) = refl
+  list_back (Continue s) = refl
+  list_back (Break (end, s)) = refl
 
 module _ (stack stack' list list' : List ℕ) where
   pub move_one : (promised : run.Moved ℕ) (m m' : Moved) → moved stack list m ≡ promised → moved stack' list' m' ≡ promised
@@ -48,7 +48,7 @@ module _ (stack stack' list list' : List ℕ) where
         sym (list_back stack list m) ∙ ap (λ (r : run.Moved ℕ). (standing_of r).list) same ∙ list_back stack' list' m',
       )
 
-  pub drive_one : (promised : DriveResult) (a b : DriveAnswer) → drove_in a stack list ≡ promised → drove_in b stack' list' ≡ promised
+  pub drive_one : (promised : DriveResult) (a b : Result RunAnswer DriveRefusal) → drove_in a stack list ≡ promised → drove_in b stack' list' ≡ promised
       → (a ≡ b) × (stack ≡ stack') × (list ≡ list')
   drive_one promised a b e f =
       let same = e ∙ sym f in

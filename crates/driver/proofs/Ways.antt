@@ -11,10 +11,9 @@ use Rattle.rules.specs.Grammar.{left_of, terminal_count}
 use Rattle.rules.specs.Table.{TableRecord, table_in}
 use Rattle.rules.specs.Run.{Standing, Moved, ends, side_length, state_under, token_at, list_full, move_shift, move_goto, move_end, move_reduce, move_by, move}
 use Rattle.rules.specs.declared.RunEnd.TheVariants.{Accepted, Rejected, Broken, ListFull, StepLimit}
-use Rattle.record.specs.declared.lookup.Found.{Found}
-use Rattle.record.specs.declared.lookup.Found.TheVariants as found
+use Rattle.std.specs.Prelude as code
 use Rattle.record.specs.declared.lookup.Act.{Act}
-use Rattle.record.specs.declared.lookup.Act.TheVariants.{Shift, Reduce, Nothing}
+use Rattle.record.specs.declared.lookup.Act.TheVariants.{Shift, Reduce}
 use Rattle.record.specs.Lookup.{found_in, act_in}
 use Rattle.driver.specs.Standings.{put_reduction}
 
@@ -68,7 +67,7 @@ module _ (rs : List TableRecord) (g : Grammar) (tokens : List ℕ) (p : ℕ) (s 
         go (suc q) n f = rw (le-leb s.depth (side_length g (suc q)) (omega arith))
 
     module _ (pops : symbols < s.depth) (under a : ℕ) (f : under ≡ get_or s.stack (s.depth - 1 - symbols) 0) (left : a ≡ left_of g p)
-        (r : Found) (goes : found_in r ≡ (table_in rs).goto under a) where
+        (r : code.Option ℕ) (goes : found_in r ≡ (table_in rs).goto under a) where
       by_goto : move_reduce (table_in rs) g tokens p s ≡ move_goto g p (found_in r) s
       unfolding move_reduce state_under table_in
       by_goto = go p nonzero e left
@@ -78,39 +77,40 @@ module _ (rs : List TableRecord) (g : Grammar) (tokens : List ℕ) (p : ℕ) (s 
           go zero n h l = absurd (n refl)
           go (suc q) n h l = rw (lt-leb s.depth (side_length g (suc q)) (omega arith), ← h, ← l, ← f, goes)
 
-      pub no_goto : r ≡ found.Nothing → ends Broken s ≡ move_reduce (table_in rs) g tokens p s
+      pub no_goto : r ≡ code.None → ends Broken s ≡ move_reduce (table_in rs) g tokens p s
       unfolding found_in move_goto
       no_goto h = sym (by_goto ∙ rw h)
 
-      pub reduces : (to : ℕ) (x : Moved ℕ) → r ≡ found.Target to → x ≡ put_reduction p symbols to s → x ≡ move_reduce (table_in rs) g tokens p s
+      pub reduces : (to : ℕ) (x : Moved ℕ) → r ≡ code.Some to → x ≡ put_reduction p symbols to s → x ≡ move_reduce (table_in rs) g tokens p s
       unfolding found_in move_goto put_reduction
       reduces to x h put = put ∙ sym (by_goto ∙ rw (h, e))
 
 -- ---- a move; a is what the topmost state does at the next token
-module _ (rs : List TableRecord) (g : Grammar) (tokens : List ℕ) (limit : ℕ) (s : Standing ℕ) (n state token : ℕ) (a : Act)
+module _ (rs : List TableRecord) (g : Grammar) (tokens : List ℕ) (limit : ℕ) (s : Standing ℕ) (n state token : ℕ) (a : code.Option Act)
     (terminals : n ≡ terminal_count g) (next : token ≡ get_or tokens s.place n) (top : state ≡ get_or s.stack (s.depth - 1) 0)
     (acts : act_in a ≡ (table_in rs).act state token) where
   by_act : move (table_in rs) g tokens limit s ≡ move_by (table_in rs) g tokens limit (act_in a) s
   unfolding move state_under token_at table_in
   by_act = rw (sub-zero, ← terminals, ← next, ← top, acts)
 
-  pub rejects : a ≡ Nothing → ends Rejected s ≡ move (table_in rs) g tokens limit s
+  pub rejects : a ≡ code.None → ends Rejected s ≡ move (table_in rs) g tokens limit s
   unfolding act_in move_by
   rejects h = sym (by_act ∙ rw h)
 
-  pub limit_shift : (to : ℕ) → a ≡ Shift to → limit ≤ s.steps → ends StepLimit s ≡ move (table_in rs) g tokens limit s
-  unfolding act_in move_by
-  limit_shift to h l = sym (by_act ∙ rw (h, le-leb limit s.steps l))
+  module _ (act : Act) (h : a ≡ code.Some act) where
+    pub at_limit : limit ≤ s.steps → ends StepLimit s ≡ move (table_in rs) g tokens limit s
+    unfolding act_in move_by
+    at_limit l = go act h
+      where
+        go : (b : Act) → a ≡ code.Some b → ends StepLimit s ≡ move (table_in rs) g tokens limit s
+        go (Shift to) e = sym (by_act ∙ rw (e, le-leb limit s.steps l))
+        go (Reduce p) e = sym (by_act ∙ rw (e, le-leb limit s.steps l))
 
-  pub limit_reduce : (p : ℕ) → a ≡ Reduce p → limit ≤ s.steps → ends StepLimit s ≡ move (table_in rs) g tokens limit s
-  unfolding act_in move_by
-  limit_reduce p h l = sym (by_act ∙ rw (h, le-leb limit s.steps l))
+    pub shifts : (to : ℕ) (x : Moved ℕ) → act ≡ Shift to → s.steps < limit → x ≡ move_shift to s → x ≡ move (table_in rs) g tokens limit s
+    unfolding act_in move_by
+    shifts to x f l e = e ∙ sym (by_act ∙ rw (h, f, lt-leb limit s.steps l))
 
-  pub shifts : (to : ℕ) (x : Moved ℕ) → a ≡ Shift to → s.steps < limit → x ≡ move_shift to s → x ≡ move (table_in rs) g tokens limit s
-  unfolding act_in move_by
-  shifts to x h l e = e ∙ sym (by_act ∙ rw (h, lt-leb limit s.steps l))
-
-  pub reduces_by : (p : ℕ) (x : Moved ℕ) → a ≡ Reduce p → s.steps < limit → x ≡ move_reduce (table_in rs) g tokens p s
-      → x ≡ move (table_in rs) g tokens limit s
-  unfolding act_in move_by
-  reduces_by p x h l e = e ∙ sym (by_act ∙ rw (h, lt-leb limit s.steps l))
+    pub reduces_by : (p : ℕ) (x : Moved ℕ) → act ≡ Reduce p → s.steps < limit → x ≡ move_reduce (table_in rs) g tokens p s
+        → x ≡ move (table_in rs) g tokens limit s
+    unfolding act_in move_by
+    reduces_by p x f l e = e ∙ sym (by_act ∙ rw (h, f, lt-leb limit s.steps l))

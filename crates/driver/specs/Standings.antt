@@ -6,20 +6,24 @@ use Rattle.rules.specs.Grammar.{terminal_count}
 use Rattle.rules.specs.Table.{table_records, table_in}
 use Rattle.rules.specs.Run.{list_full, stack_full, reduced}
 use Rattle.rules.specs.Run as run
+use Rattle.rules.specs.declared.RunEnd.{RunEnd}
 use Rattle.rules.specs.declared.RunEnd.TheVariants.{ListFull, StackFull}
 use Rattle.grammar.specs.Asked.{Faultless}
 use Rattle.record.specs.Search.{Ascends}
 use Rattle.driver.specs.declared.moves.Standing.{Standing}
-use Rattle.driver.specs.declared.moves.Moved.{Moved}
-use Rattle.driver.specs.declared.moves.Moved.TheVariants.{Goes, Ends}
+use Rattle.std.proofs.Common.{ControlFlow, Continue, Break}
 
 -- a standing with the rooms
 abbrev pub standing : List ℕ → List ℕ → Standing → run.Standing ℕ
 standing stack list s = record { stack = stack; depth = s.depth; list = list; listed = s.listed; steps = s.steps; place = s.place }
 
+-- what a move answers: where the run goes on, or how it ends and where
+abbrev pub Moved : Type 0
+Moved = ControlFlow (RunEnd × Standing) Standing
+
 abbrev pub moved : List ℕ → List ℕ → Moved → run.Moved ℕ
-moved stack list (Goes s) = run.goes (standing stack list s)
-moved stack list (Ends end s) = run.ends end (standing stack list s)
+moved stack list (Continue s) = run.goes (standing stack list s)
+moved stack list (Break (end, s)) = run.ends end (standing stack list s)
 
 -- what is left of a run from a standing on; a move is a step, and none is made at the limit
 abbrev pub left_run : List ℕ → List ℕ → List ℕ → ℕ → List ℕ → List ℕ → Standing → run.RunResult ℕ

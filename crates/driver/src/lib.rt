@@ -8,12 +8,12 @@ ghost use Rattle.std.specs.Prelude.{◌≡◌};
 ghost use Rattle.rules.specs.Limits.{limits};
 ghost use Rattle.rules.specs.Grammar.{grammar_answer};
 ghost use Rattle.rules.specs.Drive.{drive_coded, drive};
-ghost use Rattle.rules.specs.declared.GrammarAnswer.TheVariants.{Coded};
 ghost use Rattle.driver.specs.Results.{drove_in};
 
-use rules::{DriveAnswer, GrammarAnswer};
+use rules::{DriveRefusal, RunAnswer};
 
 // The drive of a coded grammar: 15, then 16, then the run.
+#[tactic(auto, using(grammar::proofs::Coded::coded_faultless, crate::proofs::Driving::table_ascends, crate::proofs::Driving::bad_length_lem, crate::proofs::Driving::bad_table, crate::proofs::Driving::bad_token))]
 fn drive_coded(
     g: &[u8],
     t: &[u8],
@@ -21,23 +21,21 @@ fn drive_coded(
     limit: u64,
     stack: &mut [u16],
     list: &mut [u16],
-) -> DriveAnswer
-    requires { grammar_answer limits g.now ≡ Coded }
+) -> Result<RunAnswer, DriveRefusal>
+    requires { grammar_answer limits g.now ≡ Ok tt }
     ensures { drove_in result stack.new list.new
-        ≡ drive_coded limits g.now Coded t.now tokens.now limit stack.old list.old }
+        ≡ drive_coded limits g.now (Ok tt) t.now tokens.now limit stack.old list.old }
 {
     if t.len() % grammar::records::RECORD != 0 {
-        return DriveAnswer::NoTable(0);
+        return Err(DriveRefusal::Table(0));
     }
-    let fault = table_check::passes::first_malformed(g, t);
-    if fault < record::records::record_count(t) {
-        return DriveAnswer::NoTable(fault);
+    if let Some(fault) = table_check::passes::first_malformed(g, t) {
+        return Err(DriveRefusal::Table(fault));
     }
-    let place = runs::first_no_token(g, tokens);
-    if place < tokens.len() {
-        return DriveAnswer::NoToken(place);
+    if let Some(place) = runs::first_no_token(g, tokens) {
+        return Err(DriveRefusal::Token(place));
     }
-    DriveAnswer::Ran(runs::run(g, t, tokens, limit, stack, list))
+    Ok(runs::run(g, t, tokens, limit, stack, list))
 }
 
 // The driver's call.
@@ -48,12 +46,10 @@ pub fn drive(
     limit: u64,
     stack: &mut [u16],
     list: &mut [u16],
-) -> DriveAnswer
+) -> Result<RunAnswer, DriveRefusal>
     ensures { drove_in result stack.new list.new
         ≡ drive limits g.now t.now tokens.now limit stack.old list.old }
 {
-    match grammar_check::check_grammar(g) {
-        GrammarAnswer::Refused(why) => DriveAnswer::NoGrammar(why),
-        GrammarAnswer::Coded => drive_coded(g, t, tokens, limit, stack, list),
-    }
+    grammar_check::check_grammar(g)?;
+    drive_coded(g, t, tokens, limit, stack, list)
 }

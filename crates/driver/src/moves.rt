@@ -8,11 +8,12 @@ ghost use Rattle.grammar.specs.Asked.{Faultless};
 ghost use Rattle.record.specs.Search.{Ascends};
 ghost use Rattle.driver.specs.Standings.{Moveable, Stands, Runnable, standing, moved, put_reduction};
 
-use record::lookup::{Act, Found};
+use record::lookup::Act;
 use rules::RunEnd;
+use std::ops::ControlFlow;
 
 // Where a run stands: how much of the rooms is in use, the moves made, and the place of the next token.
-#[derive(Drop)]
+#[derive(Clone, Copy, PartialEq, Eq)]
 pub struct Standing {
     pub depth: usize,
     pub listed: usize,
@@ -21,20 +22,18 @@ pub struct Standing {
 }
 
 // A move goes on, or the run ends.
-#[derive(Drop)]
-pub enum Moved {
-    Goes(Standing),
-    Ends(RunEnd, Standing),
-}
+pub type Moved = ControlFlow<(RunEnd, Standing), Standing>;
 
 // The token at a place, and Eof, which is n, at the end.
+#[tactic(auto, using(crate::proofs::Ways::token_there, crate::proofs::Ways::token_end))]
 fn token_at(tokens: &[u8], n: usize, place: usize) -> usize
     ensures { result ≡ get_or tokens.now place n }
 {
     if place < tokens.len() {
-        return base::wide(tokens[place]) as usize;
+        usize::from(tokens[place])
+    } else {
+        n
     }
-    n
 }
 
 // The state at a place of the stack.
@@ -42,28 +41,30 @@ fn state_at(stack: &[u16], i: usize) -> usize
     requires { i < length stack.now }
     ensures { result ≡ get_or stack.now i 0 }
 {
-    stack[i] as usize
+    usize::from(stack[i])
 }
 
 // A shift to the state.
+#[tactic(auto, unfolding(rules::specs::Run::move_shift, rules::specs::Run::stack_full))]
 fn move_shift(to: u16, s: Standing, stack: &mut [u16], list: &mut [u16]) -> Moved
     requires { Moveable stack.old s }
     ensures { moved stack.new list.new result ≡ move_shift to (standing stack.old list.old s) }
 {
     let depth = s.depth;
     if stack.len() <= depth {
-        return Moved::Ends(RunEnd::StackFull, s);
+        return ControlFlow::Break((RunEnd::StackFull, s));
     }
     stack[depth] = to;
-    Moved::Goes(Standing {
+    ControlFlow::Continue(Standing {
         depth: depth + 1,
-        listed: s.listed,
         steps: s.steps + 1,
         place: s.place + 1,
+        ..s
     })
 }
 
 // A reduction by a production of that many symbols, whose states can be popped, to the state.
+#[tactic(auto, unfolding(crate::specs::Standings::put_reduction, rules::specs::Run::list_full, rules::specs::Run::stack_full))]
 fn put_reduction(
     p: u16,
     symbols: usize,
@@ -78,51 +79,48 @@ fn put_reduction(
 {
     let listed = s.listed;
     if list.len() <= listed {
-        return Moved::Ends(RunEnd::ListFull, s);
+        return ControlFlow::Break((RunEnd::ListFull, s));
     }
     let at = s.depth - symbols;
     if stack.len() <= at {
-        return Moved::Ends(RunEnd::StackFull, s);
+        return ControlFlow::Break((RunEnd::StackFull, s));
     }
     list[listed] = p;
     stack[at] = to;
-    Moved::Goes(Standing {
+    ControlFlow::Continue(Standing {
         depth: at + 1,
         listed: listed + 1,
         steps: s.steps + 1,
-        place: s.place,
+        ..s
     })
 }
 
 // Production 0: it accepts on Eof, if just state 0 is left.
+#[tactic(auto, using(crate::proofs::Ways::off_eof, crate::proofs::Ways::more_left, crate::proofs::Ways::end_full, crate::proofs::Ways::accepts))]
 fn move_end(g: &[u8], tokens: &[u8], s: Standing, stack: &mut [u16], list: &mut [u16]) -> Moved
     requires { Faultless g.now × Moveable stack.old s }
     ensures { moved stack.new list.new result
         ≡ move_end (records g.now) tokens.now (standing stack.old list.old s) }
 {
-    if s.place != tokens.len() {
-        return Moved::Ends(RunEnd::Broken, s);
-    }
-    if s.depth - 1 != grammar_numbers::productions::side_length(g, 0) {
-        return Moved::Ends(RunEnd::Broken, s);
+    if s.place != tokens.len() || s.depth - 1 != grammar_numbers::productions::side_length(g, 0) {
+        return ControlFlow::Break((RunEnd::Broken, s));
     }
     let listed = s.listed;
     if list.len() <= listed {
-        return Moved::Ends(RunEnd::ListFull, s);
+        return ControlFlow::Break((RunEnd::ListFull, s));
     }
     list[listed] = 0;
-    Moved::Ends(
-        RunEnd::Accepted,
-        Standing {
-            depth: 1,
-            listed: listed + 1,
-            steps: s.steps + 1,
-            place: s.place,
-        },
-    )
+    let last = Standing {
+        depth: 1,
+        listed: listed + 1,
+        steps: s.steps + 1,
+        ..s
+    };
+    ControlFlow::Break((RunEnd::Accepted, last))
 }
 
 // A reduction by production p.
+#[tactic(auto, using(crate::proofs::Ways::reduces_0, crate::proofs::Ways::pops_past, crate::proofs::Ways::no_goto, crate::proofs::Ways::reduces))]
 fn move_reduce(
     g: &[u8],
     t: &[u8],
@@ -137,14 +135,14 @@ fn move_reduce(
         ≡ move_reduce (table_in (table_records t.now)) (records g.now) tokens.now p
         (standing stack.old list.old s) }
 {
-    let production = p as usize;
+    let production = usize::from(p);
     if production == 0 {
         return move_end(g, tokens, s, stack, list);
     }
     let symbols = grammar_numbers::productions::side_length(g, production);
     let depth = s.depth;
     if depth <= symbols {
-        return Moved::Ends(RunEnd::Broken, s);
+        return ControlFlow::Break((RunEnd::Broken, s));
     }
     let under = state_at(stack, depth - 1 - symbols);
     match record::lookup::goto(
@@ -152,12 +150,14 @@ fn move_reduce(
         under,
         grammar_numbers::productions::left_symbol(g, production),
     ) {
-        Found::Target(to) => put_reduction(p, symbols, to, s, stack, list),
-        Found::Nothing => Moved::Ends(RunEnd::Broken, s),
+        Some(to) => put_reduction(p, symbols, to, s, stack, list),
+        None => ControlFlow::Break((RunEnd::Broken, s)),
     }
 }
 
-// One move of the run: what the topmost state does at the next token. The grammar has n terminals.
+// One move of the run: what the topmost state does at the next token. The grammar has n terminals. What a run goes by and its rooms are
+// passed one by one, as `run_from`, `run` and the call take them; the moves below take each a part of it.
+#[tactic(auto, using(crate::proofs::Ways::rejects, crate::proofs::Ways::shifts, crate::proofs::Ways::reduces_by))]
 pub fn step(
     g: &[u8],
     t: &[u8],
@@ -175,19 +175,14 @@ pub fn step(
 {
     let token = token_at(tokens, n, s.place);
     let state = state_at(stack, s.depth - 1);
-    match record::lookup::action(t, state, token) {
-        Act::Shift(to) => {
-            if limit <= s.steps as u64 {
-                return Moved::Ends(RunEnd::StepLimit, s);
-            }
-            move_shift(to, s, stack, list)
-        }
-        Act::Reduce(p) => {
-            if limit <= s.steps as u64 {
-                return Moved::Ends(RunEnd::StepLimit, s);
-            }
-            move_reduce(g, t, tokens, p, s, stack, list)
-        }
-        Act::Nothing => Moved::Ends(RunEnd::Rejected, s),
+    let Some(act) = record::lookup::action(t, state, token) else {
+        return ControlFlow::Break((RunEnd::Rejected, s));
+    };
+    if limit <= s.steps as u64 {
+        return ControlFlow::Break((RunEnd::StepLimit, s));
+    }
+    match act {
+        Act::Shift(to) => move_shift(to, s, stack, list),
+        Act::Reduce(p) => move_reduce(g, t, tokens, p, s, stack, list),
     }
 }

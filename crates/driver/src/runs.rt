@@ -1,5 +1,6 @@
 // The run: move after move until it ends.
 ghost use Rattle.std.specs.Prelude.{◌≡◌, ◌<◌, length};
+ghost use Rattle.base.specs.Loops.{place_below};
 ghost use Rattle.rules.specs.Records.{records};
 ghost use Rattle.rules.specs.Table.{table_records, table_in};
 ghost use Rattle.rules.specs.Run.{run};
@@ -9,29 +10,29 @@ ghost use Rattle.record.specs.Search.{Ascends};
 ghost use Rattle.driver.specs.Standings.{Stands, Runnable, left_run};
 ghost use Rattle.driver.specs.Results.{ran_in, no_token};
 
-use crate::moves::{Moved, Standing};
+use crate::moves::Standing;
 use rules::{RunAnswer, RunEnd};
+use std::ops::ControlFlow;
 
 // The token at place i is not below n.
+#[tactic(auto, using(crate::proofs::Tokens::token_tested))]
 fn no_token(tokens: &[u8], n: usize, i: usize) -> bool
     requires { i < length tokens.now }
     ensures { result ≡ no_token n tokens.now i }
 {
-    n <= base::wide(tokens[i]) as usize
+    n <= usize::from(tokens[i])
 }
 
-// Refusal 16: the first token not below n, or the number of tokens if there is none.
-pub fn first_no_token(g: &[u8], tokens: &[u8]) -> usize
-    ensures { result ≡ first_no_token (records g.now) tokens.now }
+// Refusal 16: the first token not below n.
+pub fn first_no_token(g: &[u8], tokens: &[u8]) -> Option<usize>
+    ensures { result ≡ place_below (length tokens.now) (first_no_token (records g.now) tokens.now) }
 {
     let n = grammar_numbers::counts::terminal_count(g);
-    let count = tokens.len();
-    for i in 0..count {
-        if no_token(tokens, n, i) {
-            return i;
-        }
-    }
-    count
+    (0..tokens.len()).find(
+        |i|
+            requires { i.now < length tokens.now }
+        { no_token(tokens, n, *i) },
+    )
 }
 
 // The run from a standing on, move after move. It makes no more of them than the limit says.
@@ -50,12 +51,13 @@ pub fn run_from(
         ≡ left_run g.now t.now tokens.now limit stack.old list.old s }
 {
     let mut here = s;
+    // `while let` over the moves that go on would lose how the last one ends
     loop {
         match crate::moves::step(g, t, tokens, n, limit, here, stack, list) {
-            Moved::Goes(next) => {
+            ControlFlow::Continue(next) => {
                 here = next;
             }
-            Moved::Ends(end, last) => {
+            ControlFlow::Break((end, last)) => {
                 return RunAnswer {
                     end,
                     place: last.place,

@@ -1,12 +1,11 @@
 -- The entries of a state that lack a token of their least sets.
 use Prim.Native.Nat.{ℕ, zero, suc, ◌+◌, ◌-◌, ◌<◌, ◌≤◌}
 use mathlib.Core.Path.{◌≡◌, refl, sym, ap, ◌∙◌}
-use mathlib.Core.Bool.{Bool, true, false, not, ◌||◌}
+use mathlib.Core.Bool.{Bool, true, false, ◌||◌}
 use mathlib.Core.List.{List}
 use native.Mathlib.Omega.{arith}
 use native.Mathlib.Nat.{sub-zero}
 use lib.ListN.{length}
-use borrow.Author.Tests.{not-true, not-false}
 use Rattle.base.specs.Pick.{pick}
 use Rattle.base.specs.Each.{each_from}
 use Rattle.base.specs.Loops.{any_from}
@@ -16,7 +15,7 @@ use Rattle.rules.specs.FinalCheck.{lacks}
 use Rattle.room.specs.Areas.{Room}
 use Rattle.room.specs.Bounds.{IsEntry}
 use Rattle.room.specs.Slots.{entry_slot}
-use Rattle.lookahead.specs.Sets.{lacks_some, lacks_below}
+use Rattle.lookahead.specs.Sets.{lacks_token, lacks_some, lacks_below}
 use Rattle.states.specs.StatesIn.{entry_in, first_of, state_in, PlacedRun, PlacedAt}
 use Rattle.states.proofs.States.{set_of_lem}
 use Rattle.states.proofs.Places.{run_read}
@@ -30,14 +29,16 @@ module _ (g : Grammar) (r : Room) (k i : ℕ) (c : Bool) (is : i ≡ (entry_in r
   ends_as : at_end g (entry_in r k).item ≡ c
   ends_as = sym (last ∙ ap (at_end g) is)
 
-  pub none_asked : not c ≡ true → lacks_below (entry_slot k) (least_slot k) r 0 ≡ lacks_in g r k
-  unfolding lacks_in any_from
-  none_asked z = rw (ends_as, not-true c z)
-
-  pub all_asked : (own least end : ℕ) → not c ≡ false → own ≡ entry_slot k → least ≡ least_slot k → lacks_below own least r end ≡ lacks_some own least r
-      → lacks_below (entry_slot k) (least_slot k) r end ≡ lacks_in g r k
+  pub none_asked : c ≡ false → false ≡ lacks_in g r k
   unfolding lacks_in
-  all_asked own least end z o l e = rw (ends_as, not-false c z, set_of_lem r k, least_set r k, ← o, ← l) e
+  none_asked z = rw (ends_as, z)
+
+  pub all_asked : (own least end : ℕ) (b : Bool) → c ≡ true → own ≡ entry_slot k → least ≡ least_slot k → lacks_below own least r end ≡ lacks_some own least r
+      → b ≡ any_from (lacks_token own least r) (end - 0) 0 → b ≡ lacks_in g r k
+  unfolding lacks_in
+  all_asked own least end b z o l e says =
+      let f : b ≡ lacks_some own least r = says ∙ rw sub-zero e in
+      rw (ends_as, z, set_of_lem r k, least_set r k, ← o, ← l) f
 
 -- ---- where the entries of state s lie
 pub state_placed : (bytes : List ℕ) (count s : ℕ) (r : Room) → Ready bytes count r → s < count → PlacedAt (length (records bytes)) r s
@@ -67,6 +68,3 @@ module _ (g : Grammar) (r : Room) where
   pub state_begins : (s first end : ℕ) → first ≡ first_of r s → end ≡ first_of r (s + 1) → any_from (lacks_in g r) (end - first) first ≡ lacks g (state_in r s) (least_state r s)
   unfolding state_in least_state
   state_begins s first end p q = rw (p, q) (lacks_each (first_of r (s + 1) - first_of r s) (first_of r s))
-
-pub tokens_begin : (test : ℕ → Bool) (end : ℕ) (v : Bool) → any_from test end 0 ≡ v → any_from test (end - 0) 0 ≡ v
-tokens_begin test end v e = rw sub-zero e

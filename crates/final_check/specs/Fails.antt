@@ -1,27 +1,23 @@
 -- What fails, in the order in which the code looks for it in the room: state by state, entry by entry, token by token.
-use Rattle.std.specs.Prelude.{ℕ, ◌<◌, Bool, not, ◌&&◌, List, length, eqb}
+use Rattle.std.specs.Prelude.{ℕ, ◌<◌, Bool, not, ◌&&◌, List, length, eqb, nat_lt, Option, Some, None}
+use Rattle.base.specs.Pick.{pick}
 use Rattle.base.specs.Loops.{first_from}
 use Rattle.rules.specs.Records.{Grammar, records}
+use Rattle.rules.specs.declared.StateIndex.{StateIndex}
 use Rattle.rules.specs.Tokens.{within}
 use Rattle.rules.specs.Grammar.{at_end}
 use Rattle.rules.specs.First.{first_sets}
 use Rattle.rules.specs.States.{conflicts_at}
 use Rattle.rules.specs.FinalCheck.{fails_at, first_failing}
 use Rattle.room.specs.Areas.{Room, view}
-use Rattle.room.specs.Slots.{entry_slot}
-use Rattle.lookahead.specs.Sets.{lacks_below}
 use Rattle.states.specs.StatesIn.{entry_in, state_in, states_in}
-use Rattle.least_steps.specs.Least.{least_slot, least_entry, least_of}
+use Rattle.least_steps.specs.Least.{least_entry, least_of}
 
 -- ---- what is asked: the item of the entry at place k is one of the records
 abbrev pub Recorded : List ℕ → List ℕ → ℕ → Type 0
 Recorded bytes work k = (entry_in (view work) k).item < length (records bytes)
 
 -- ---- what fails
--- one of the first tokens is in the least set of the entry at place k, and its own set lacks it
-abbrev pub tokens_lack : List ℕ → ℕ → ℕ → Bool
-tokens_lack work k end = lacks_below (entry_slot k) (least_slot k) (view work) end
-
 -- the entry at place k is a reduction, and lacks a token of its least set
 unfoldable pub lacks_in : Grammar → Room → ℕ → Bool
 unfolding at_end within
@@ -34,9 +30,16 @@ entry_lacks bytes work k = lacks_in (records bytes) (view work) k
 abbrev pub has_conflict : List ℕ → List ℕ → ℕ → Bool
 has_conflict bytes work s = not (eqb (conflicts_at (records bytes) (state_in (view work) s)) 0)
 
--- ---- the lowest state that fails, by the least sets that the room has, and by those of the states
-abbrev pub lowest_failing : List ℕ → ℕ → List ℕ → ℕ
-lowest_failing bytes count work = first_from (fails_at (records bytes) (states_in (view work) count) (least_of count work)) count 0
+-- and the state fails, by the least sets that the room has
+abbrev pub fails_in : List ℕ → ℕ → List ℕ → ℕ → Bool
+fails_in bytes count work = fails_at (records bytes) (states_in (view work) count) (least_of count work)
 
-abbrev pub failing : List ℕ → ℕ → List ℕ → ℕ
-failing bytes count work = first_failing (records bytes) (first_sets (records bytes)) (states_in (view work) count)
+-- ---- the lowest state that fails, if one does, by the least sets that the room has, and by those of the states
+abbrev pub state_below : ℕ → ℕ → Option StateIndex
+state_below count s = pick (nat_lt s count) (Some (record { 0 = s })) None
+
+abbrev pub lowest_failing : List ℕ → ℕ → List ℕ → Option StateIndex
+lowest_failing bytes count work = state_below count (first_from (fails_in bytes count work) count 0)
+
+abbrev pub failing : List ℕ → ℕ → List ℕ → Option StateIndex
+failing bytes count work = state_below count (first_failing (records bytes) (first_sets (records bytes)) (states_in (view work) count))

@@ -1,10 +1,9 @@
 -- What stands behind a dot, with its mark taken, and with a lookahead behind it.
 use Prim.Native.Nat.{ℕ}
 use mathlib.Core.Path.{◌≡◌, sym, ap, ◌∙◌}
-use mathlib.Core.Bool.{Bool, true, false, not}
+use mathlib.Core.Bool.{Bool, true, false}
 use mathlib.Core.List.{List}
 use native.Mathlib.Omega.{arith}
-use borrow.Author.Tests.{not-true, not-false}
 use Rattle.base.specs.Pick.{pick}
 use Rattle.rules.specs.Tokens.{TokenSet, has, join, without}
 use Rattle.rules.specs.Grammar.{Symbol}
@@ -44,11 +43,11 @@ module _ (n : ℕ) (sets : Sets) (xs : List Symbol) where
       begins_empty r e = rw (there (first0 n sets xs) put) at e
 
     module _ (ahead : ℕ) (r : Bool) (put : p ≡ put_set slot (beginning n sets xs) (view w)) (empty : r ≡ may_be_empty n sets xs) where
-      pub ahead_left : not r ≡ true → p ≡ put_set slot (first1 n sets xs (set_at (view w) ahead)) (view w)
-      ahead_left e = rw (first1_begun (set_at (view w) ahead) (sym empty ∙ not-true r e)) put
+      pub ahead_left : r ≡ false → p ≡ put_set slot (first1 n sets xs (set_at (view w) ahead)) (view w)
+      ahead_left e = rw (first1_begun (set_at (view w) ahead) (sym empty ∙ e)) put
 
-      pub ahead_joined : (q : Room) → not r ≡ false → (ahead ≡ slot → ⊥) → q ≡ put_set slot (join (set_at p slot) (set_at p ahead)) p
+      pub ahead_joined : (q : Room) → r ≡ true → (ahead ≡ slot → ⊥) → q ≡ put_set slot (join (set_at p slot) (set_at p ahead)) p
           → q ≡ put_set slot (first1 n sets xs (set_at (view w) ahead)) (view w)
       ahead_joined q e ne d =
           let other : set_at p ahead ≡ set_at (view w) ahead = put_elsewhere (view w) p slot _ put ahead ne in
-          rw (first1_empty (set_at (view w) ahead) (sym empty ∙ not-false r e), ← there (beginning n sets xs) put, ← other) (put_again (view w) p slot _ put q _ d)
+          rw (first1_empty (set_at (view w) ahead) (sym empty ∙ e), ← there (beginning n sets xs) put, ← other) (put_again (view w) p slot _ put q _ d)

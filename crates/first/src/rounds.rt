@@ -1,6 +1,5 @@
 // FIRST of every nonterminal, collected in rounds over the productions: first/mod.rs, FirstSets::new.
 ghost use Rattle.std.specs.Prelude.{◌≡◌, true, ◌≤◌, replicate};
-ghost use Rattle.base.specs.Pick.{pick};
 ghost use Rattle.rules.specs.Limits.{max_nonterminals};
 ghost use Rattle.rules.specs.Records.{records};
 ghost use Rattle.rules.specs.Grammar.{at_start};
@@ -40,20 +39,7 @@ fn add_first_at(g: &[u8], n: usize, i: usize, work: &mut [u64]) -> bool
     ensures only_firsts { OnlyFirsts (records g.now) (view work.old) (view work.new) }
     ensures value { result ≡ adds_first_at g.now n i work.old }
 {
-    if at_start(g, i) {
-        return add_first(g, n, i, work);
-    }
-    false
-}
-
-// One of the two holds.
-pub fn either(a: bool, b: bool) -> bool
-    ensures { result ≡ pick a true b }
-{
-    if a {
-        return true;
-    }
-    b
+    at_start(g, i) && add_first(g, n, i, work)
 }
 
 // One round over the productions; says whether a left side lacked something.
@@ -66,8 +52,7 @@ fn round(g: &[u8], n: usize, work: &mut [u64]) -> bool
     let count = record_count(g);
     let mut changed = false;
     for i in 0..count {
-        let new = add_first_at(g, n, i, work);
-        changed = either(changed, new);
+        changed |= add_first_at(g, n, i, work);
     }
     changed
 }
@@ -80,6 +65,7 @@ fn rounds(g: &[u8], n: usize, m: usize, work: &mut [u64])
     ensures only_firsts { OnlyFirsts (records g.now) (view work.old) (view work.new) }
 {
     let bound = m * (n + 1);
+    // A `for`: each round writes into the room, and the first that adds nothing is the last.
     for turn in 0..bound {
         if !round(g, n, work) {
             return;

@@ -36,6 +36,7 @@ fn collect(g: &[u8], n: usize, i: usize, work: &mut [u64], slot: usize)
     ensures { view work.new ≡ first0_put g.now n i slot (view work.old) }
 {
     let count = record_count(g);
+    // A `for`: each turn writes into the room, and says whether the next is taken.
     for k in i + 1..count {
         if at_start(g, k) {
             insert(work, slot, n);
@@ -77,8 +78,7 @@ pub fn first1(g: &[u8], n: usize, i: usize, work: &mut [u64], slot: usize, ahead
     requires long_enough { LongEnough work.old × NotFirst slot × IsSlot slot × IsSlot ahead × (ahead ≡ slot → ⊥) }
     ensures { view work.new ≡ first1_put g.now n i slot ahead (view work.old) }
 {
-    if !begin(g, n, i, work, slot) {
-        return;
+    if begin(g, n, i, work, slot) {
+        join_into(work, slot, ahead);
     }
-    join_into(work, slot, ahead);
 }

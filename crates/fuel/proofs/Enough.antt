@@ -7,6 +7,7 @@ use native.Mathlib.Omega.{arith}
 use native.Mathlib.Numerals.{add-one}
 use lib.ListN.{length, get_or, set, replicate, length-replicate}
 use lib.Dec.{eqb}
+use Rattle.std.specs.Prelude.{Ok}
 use Rattle.base.specs.Pick.{pick}
 use Rattle.base.specs.Among.{Among}
 use Rattle.base.specs.Lists.{up_to, fold_over}
@@ -22,7 +23,6 @@ use Rattle.rules.specs.Lanes.{Action, reduce, LaneTable, Trace, un_shift, un_clo
 use Rattle.rules.specs.Merge.{Merge, walk, merge_begun, merged, merge_rows, resolve_all}
 use Rattle.rules.specs.FinalCheck.{least_settled, least_round, least_begun, least_sets}
 use Rattle.rules.specs.Run.{Table, Standing, answered, run}
-use Rattle.rules.specs.declared.GrammarAnswer.TheVariants.{Coded}
 use Rattle.rules.specs.declared.BuildRefusal.TheVariants.{Conflicts}
 use Rattle.rules.specs.declared.RunEnd.TheVariants.{StackFull}
 use Rattle.sets.proofs.Laws.{single_below, all_below}
@@ -158,7 +158,7 @@ module _ {S : Type 0} (table : Table S) (g : Grammar) (tokens : List ℕ) (limit
       unopened = record { stack = stack; depth = 0; list = list; listed = 0; steps = 0; place = 0 }
 
 -- ---- the page
-pub enough : (l : Limits) → 0 < l.states → (bytes : List ℕ) → grammar_answer l bytes ≡ Coded → Enough l (records bytes)
+pub enough : (l : Limits) → 0 < l.states → (bytes : List ℕ) → grammar_answer l bytes ≡ Ok tt → Enough l (records bytes)
 unfolding eof
 enough l room bytes coded =
     let g : Grammar = records bytes in
@@ -183,6 +183,6 @@ enough l room bytes coded =
     }
 
 -- by document 01's limits
-pub enough_here : (bytes : List ℕ) → grammar_answer limits bytes ≡ Coded → Enough limits (records bytes)
+pub enough_here : (bytes : List ℕ) → grammar_answer limits bytes ≡ Ok tt → Enough limits (records bytes)
 unfolding limits
 enough_here = enough limits (omega arith)

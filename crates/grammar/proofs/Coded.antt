@@ -7,17 +7,18 @@ use native.Mathlib.Omega.{arith}
 use lib.ListN.{length}
 use lib.Dec.{eqb, leb, ltb}
 use borrow.Author.Tests.{eqb-true, eqb-false, leb-false, ltb-false, not-false}
+use Rattle.std.specs.Prelude.{Ok, Err}
 use Rattle.base.specs.Loops.{first_from}
 use Rattle.base.specs.Pick.{pick}
 use Rattle.base.proofs.ListLoops.{first_never, first_bound, greatest_below}
 use Rattle.base.proofs.Tests.{or_false}
+use Rattle.rules.proofs.Answers.{err≢ok}
 use Rattle.rules.proofs.Laws.{length_records}
 use Rattle.rules.specs.Limits.{limits, max_terminals, max_nonterminals, max_productions, max_symbols, max_bytes}
 use Rattle.rules.specs.Records.{Record, Grammar, records, past, at, is_terminal, is_left_side, bad_length, bad_record, in_sequence, out_of_sequence}
 use Rattle.rules.specs.Grammar.{first_fault, terminal_count, nonterminal_count, grammar_answer}
 use Rattle.rules.specs.declared.GrammarRefusal.{GrammarRefusal}
 use Rattle.rules.specs.declared.GrammarRefusal.TheVariants.{Length}
-use Rattle.rules.specs.declared.GrammarAnswer.TheVariants.{Coded, Refused}
 use Rattle.grammar.specs.Asked.{InRange, NoFault, Faultless}
 use Rattle.grammar.specs.Tests.{is_fault, count_named}
 
@@ -114,10 +115,7 @@ module _ (g : Grammar) (clean : NoFault g) where
 pub nonterminal_within : (g : Grammar) (m a : ℕ) → NoFault g → m ≡ nonterminal_count g → a < m → a < max_nonterminals
 nonterminal_within g m a clean e h = let l = nonterminal_count_below g clean in omega arith
 
--- ---- bytes that the check answers `Coded`
-refused_no : (why : GrammarRefusal) → Refused why ≡ Coded → ⊥
-refused_no why e = let z : ◌≡◌ {A = ℕ} 0 1 = cc in omega arith
-
+-- ---- bytes that the check answers `Ok`
 module _ {A : Type 0} (b : Bool) (x y v : A) (e : pick b x y ≡ v) (other : x ≡ v → ⊥) where
   pick_test : b ≡ false
   pick_test = go b e
@@ -136,10 +134,10 @@ through test n e =
     let l = first_bound test n 0 in
     omega arith
 
-module _ (bytes : List ℕ) (answer : grammar_answer limits bytes ≡ Coded) where
+module _ (bytes : List ℕ) (answer : grammar_answer limits bytes ≡ Ok tt) where
   length_fine : bad_length limits bytes ≡ false
   unfolding grammar_answer
-  length_fine = pick_test (bad_length limits bytes) (Refused Length) _ Coded answer (refused_no Length)
+  length_fine = pick_test (bad_length limits bytes) (Err Length) _ (Ok tt) answer (err≢ok Length tt)
 
   pub coded_some : 0 < length bytes
   unfolding bad_length limits
@@ -158,5 +156,5 @@ module _ (bytes : List ℕ) (answer : grammar_answer limits bytes ≡ Coded) whe
   pub coded_faultless : Faultless bytes
   unfolding grammar_answer is_fault
   coded_faultless =
-      let four = pick_rest (bad_length limits bytes) (Refused Length) _ Coded answer (refused_no Length) in
-      through (is_fault (records bytes)) (length (records bytes)) (pick_test _ _ _ Coded four (refused_no _))
+      let four = pick_rest (bad_length limits bytes) (Err Length) _ (Ok tt) answer (err≢ok Length tt) in
+      through (is_fault (records bytes)) (length (records bytes)) (pick_test _ _ _ (Ok tt) four (err≢ok _ tt))

@@ -7,11 +7,10 @@ use native.Mathlib.Omega.{arith}
 use native.Mathlib.Nat.{add_assoc}
 use lib.ListN.{length, get_or, drop}
 use lib.Seq.{get_or-drop}
-use lib.Dec.{eqb}
 use Rattle.base.proofs.ListLoops.{kept, kept_start}
 use Rattle.rules.proofs.Laws.{length_records, record_past, not_at_end_within}
-use Rattle.rules.specs.Records.{Grammar, record_at, records_of, records, past, at, is_terminal}
-use Rattle.rules.specs.Grammar.{Symbol, nonterminal, terminal, at_end, at_start, is_before, left_sides}
+use Rattle.rules.specs.Records.{Grammar, record_at, records_of, records, past, at}
+use Rattle.rules.specs.Grammar.{at_end, at_start, left_sides}
 use Rattle.grammar.specs.Asked.{InRange}
 
 -- ---- records
@@ -39,32 +38,9 @@ past_end g n i e h = let l : length g ≤ i + 1 = omega arith in rw (record_past
 pub behind_dot : (bytes : List ℕ) (i : ℕ) → at_end (records bytes) i ≡ false → InRange (i + 1) bytes
 behind_dot bytes i f = omega (arith, not_at_end_within (records bytes) i f, length_records bytes)
 
-module _ (g : Grammar) (i : ℕ) (b : Bool) (last : b ≡ at_end g i) where
-  pub end_known : (v : Bool) → b ≡ v → at_end g i ≡ v
-  end_known v e = sym last ∙ e
-
-  pub before_nothing : (x : Symbol) → b ≡ true → false ≡ is_before g x i
-  unfolding is_before
-  before_nothing x e = rw (← last, e)
-
-  module _ (t : Bool) (behind : t ≡ is_terminal (at g (i + 1))) where
-    pub before_a_terminal : (a : ℕ) → b ≡ false → t ≡ true → false ≡ is_before g (nonterminal a) i
-    unfolding is_before
-    before_a_terminal a e f = rw (← last, e, ← behind, f)
-
-    pub before_a_nonterminal : (a : ℕ) → b ≡ false → t ≡ false → false ≡ is_before g (terminal a) i
-    unfolding is_before
-    before_a_nonterminal a e f = rw (← last, e, ← behind, f)
-
-    pub before_that_nonterminal : (a s : ℕ) → b ≡ false → t ≡ false
-        → s ≡ (at g (i + 1)).symbol → eqb s a ≡ is_before g (nonterminal a) i
-    unfolding is_before
-    before_that_nonterminal a s e f h = rw (← last, e, ← behind, f, h)
-
-    pub before_that_terminal : (a s : ℕ) → b ≡ false → t ≡ true
-        → s ≡ (at g (i + 1)).symbol → eqb s a ≡ is_before g (terminal a) i
-    unfolding is_before
-    before_that_terminal a s e f h = rw (← last, e, ← behind, f, h)
+-- what the test of the end said
+pub end_known : (g : Grammar) (i : ℕ) (b : Bool) → b ≡ at_end g i → (v : Bool) → b ≡ v → at_end g i ≡ v
+end_known g i b last v e = sym last ∙ e
 
 -- ---- the left-side records, of n records
 pub left_sides_lem : (g : Grammar) (n : ℕ) → n ≡ length g → kept (at_start g) n 0 ≡ left_sides g

@@ -3,37 +3,16 @@
 use Prim.Native.Nat.{ℕ, zero, suc, ◌+◌, ◌-◌, ◌<◌, ◌≤◌}
 use mathlib.Core.Path.{◌≡◌, refl, sym, ap, ◌∙◌}
 use mathlib.Core.Logic.{⊎_elim}
-use mathlib.Core.Bool.{Bool, true, false, ◌&&◌, true≢false}
+use mathlib.Core.Bool.{true, false, ◌&&◌}
 use native.Mathlib.Omega.{arith}
-use native.Mathlib.Decide.{ℕ_discrete, dec_lt}
+use native.Mathlib.Decide.{ℕ_discrete}
 use lib.ListN.{length}
 use lib.Dec.{eqb}
 use borrow.Author.Tests.{eqb-true, ne_eqb, eq-eqb}
-use Rattle.base.specs.Loops.{first_from}
-use Rattle.base.proofs.Found.{before_first, at_first}
-use Rattle.base.proofs.ListLoops.{first_bound}
+pub use Rattle.base.proofs.Found.{first_is}
 use Rattle.base.proofs.Tests.{both_true, either_true}
 use Rattle.rules.specs.Records.{Record, Grammar, at, is_left_side, comes_behind, in_sequence}
 use Rattle.rules.specs.Grammar.{left_side_of}
-
--- the number at which no earlier one passes, and which passes if it is one of the n, is the first that passes
-pub first_is : (test : ℕ → Bool) (n k : ℕ) → k ≤ n → (k < n → test k ≡ true)
-    → ((j : ℕ) → j < k → test j ≡ true → ⊥) → first_from test n 0 ≡ k
-first_is test n k l passes none = omega (arith, not_later, not_earlier)
-  where
-    not_later : first_from test n 0 ≤ k
-    not_later = elim (dec_lt k (first_from test n 0)) [
-      | yes h ↦
-          let b = first_bound test n 0 in
-          absurd (true≢false (sym (passes (omega arith)) ∙ before_first test n 0 k (omega arith) h))
-      | no h ↦ omega arith
-    ]
-
-    not_earlier : k ≤ first_from test n 0
-    not_earlier = elim (dec_lt (first_from test n 0) k) [
-      | yes h ↦ absurd (none (first_from test n 0) h (at_first test n 0 (omega arith)))
-      | no h ↦ omega arith
-    ]
 
 -- r is the next record of q's production, or begins the next production
 data Follows (q r : Record) : Type 0 where

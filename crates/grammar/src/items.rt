@@ -7,6 +7,7 @@ ghost use Rattle.grammar.specs.Asked.{InRange, Faultless};
 ghost use Rattle.grammar.specs.Tests.{item_left_side, item_left};
 
 // The dot of item i is at the start: record i is a left side.
+#[tactic(auto, unfolding(rules::specs::Grammar::at_start))]
 pub fn at_start(g: &[u8], i: usize) -> bool
     requires { InRange i g.now }
     ensures { result ≡ at_start (records g.now) i }
@@ -15,17 +16,16 @@ pub fn at_start(g: &[u8], i: usize) -> bool
 }
 
 // The dot of item i is at the end: no symbol stands behind it. (core/mod.rs: can_reduce)
+#[tactic(auto, using(crate::proofs::Laws::past_end), unfolding(rules::specs::Grammar::at_end))]
 pub fn at_end(g: &[u8], i: usize) -> bool
     requires { InRange i g.now }
     ensures { result ≡ at_end (records g.now) i }
 {
-    if crate::records::record_count(g) <= i + 1 {
-        return true;
-    }
-    crate::records::position(g, i + 1) == 0
+    crate::records::record_count(g) <= i + 1 || crate::records::position(g, i + 1) == 0
 }
 
 // The symbol behind the dot of item i is a terminal. (core/mod.rs: shift_symbol)
+#[tactic(auto, using(crate::proofs::Laws::behind_dot))]
 pub fn terminal_behind(g: &[u8], i: usize) -> bool
     requires { at_end (records g.now) i ≡ false }
     ensures { result ≡ is_terminal (at (records g.now) (i + 1)) }
@@ -34,6 +34,7 @@ pub fn terminal_behind(g: &[u8], i: usize) -> bool
 }
 
 // The symbol behind the dot of item i. (core/mod.rs: shift_symbol)
+#[tactic(auto, using(crate::proofs::Laws::behind_dot))]
 pub fn symbol_behind(g: &[u8], i: usize) -> usize
     requires { at_end (records g.now) i ≡ false }
     ensures { result ≡ (at (records g.now) (i + 1)).symbol }
@@ -42,34 +43,25 @@ pub fn symbol_behind(g: &[u8], i: usize) -> usize
 }
 
 // Nonterminal a stands directly behind the dot of item i. (core/mod.rs: can_shift_nonterminal)
+#[tactic(auto, unfolding(rules::specs::Grammar::is_before))]
 pub fn before_nonterminal(g: &[u8], a: usize, i: usize) -> bool
     requires { InRange i g.now }
     ensures { result ≡ is_before (records g.now) (Symbol.nonterminal a) i }
 {
-    if at_end(g, i) {
-        return false;
-    }
-    if terminal_behind(g, i) {
-        return false;
-    }
-    symbol_behind(g, i) == a
+    !at_end(g, i) && !terminal_behind(g, i) && symbol_behind(g, i) == a
 }
 
 // Terminal t stands directly behind the dot of item i.
+#[tactic(auto, unfolding(rules::specs::Grammar::is_before))]
 pub fn before_terminal(g: &[u8], t: usize, i: usize) -> bool
     requires { InRange i g.now }
     ensures { result ≡ is_before (records g.now) (Symbol.terminal t) i }
 {
-    if at_end(g, i) {
-        return false;
-    }
-    if terminal_behind(g, i) {
-        return symbol_behind(g, i) == t;
-    }
-    false
+    !at_end(g, i) && terminal_behind(g, i) && symbol_behind(g, i) == t
 }
 
 // The left-side record of item i's production: it stands as many records back as the position says.
+#[tactic(auto, using(crate::proofs::LeftSides::reaches, crate::proofs::LeftSides::left_there))]
 pub fn left_record(g: &[u8], i: usize) -> usize
     requires { InRange i g.now × Faultless g.now }
     ensures { (result ≡ item_left_side (records g.now) i) × (result ≤ i) }

@@ -7,6 +7,7 @@
 
 ghost use Rattle.std.specs.Prelude.{◌<◌, ◌≤◌, length, IfOk};
 
+use answers::Said;
 use std::io;
 
 // Says of the case with this name, or with what is there of its name, that the input ends within it.
@@ -22,7 +23,7 @@ fn run_case(to: &impl Print, cases: &[u8], at: usize) -> io::Result<usize>
 {
     let name = at + 1;
     let left = cases.len() - name;
-    let named = base::wide(cases[at]) as usize;
+    let named = usize::from(cases[at]);
     if left < named {
         write_cut_short(to, &cases[name..])?;
         return Ok(cases.len());
@@ -33,7 +34,7 @@ fn run_case(to: &impl Print, cases: &[u8], at: usize) -> io::Result<usize>
         return Ok(cases.len());
     }
     let grammar = size + 2;
-    let long = (base::wide(cases[size]) + 256 * base::wide(cases[size + 1])) as usize;
+    let long = usize::from(cases[size]) + 256 * usize::from(cases[size + 1]);
     if cases.len() - grammar < long {
         write_cut_short(to, &cases[name..size])?;
         return Ok(cases.len());
@@ -42,10 +43,12 @@ fn run_case(to: &impl Print, cases: &[u8], at: usize) -> io::Result<usize>
     to.write_all(&cases[name..size])?;
     to.write_all(b": ")?;
     let answer = grammar_check::check_grammar(&cases[grammar..next]);
-    text::write_said(to, answers::grammar_said(answer))?;
+    text::write_said(to, Said::from(answer))?;
     Ok(next)
 }
 
+// Runs the cases. Each gives the place of the next, so no range goes through them; a loop shared by the programs would have to ask of its
+// closure what `run_case` promises.
 fn run_cases(to: &impl Print, cases: &[u8]) -> io::Result<()> {
     let mut at = 0;
     while at < cases.len() {
@@ -57,10 +60,8 @@ fn run_cases(to: &impl Print, cases: &[u8]) -> io::Result<()> {
 // The cases are read at once, 65,536 bytes of them at most; more than that is not run, and said to be left over.
 fn main(rt: HostRuntime) -> io::Result<()> {
     let mut space = [0u8; 65536];
-    let file = input::files::read(&mut rt.stdin(), &mut space);
-    file.readable?;
-    let n = file.size;
-    run_cases(&rt, &space[..n])?;
+    let file = input::files::read(&mut rt.stdin(), &mut space)?;
+    run_cases(&rt, &space[..file.size])?;
     if file.longer {
         rt.write_all(b"input left over\n")?;
     }

@@ -1,12 +1,19 @@
 -- What finding a production's left side goes by, and counting the symbols behind it.
-use Prim.Native.Nat.{ℕ, suc, ◌+◌, ◌-◌, ◌/◌, ◌<◌, ◌≤◌}
-use mathlib.Core.Path.{◌≡◌, sym, ap, ◌∙◌}
-use mathlib.Core.Bool.{Bool, true, false}
+use Prim.Native.Nat.{ℕ, zero, suc, ◌+◌, ◌-◌, ◌<◌, ◌≤◌}
+use mathlib.Core.Path.{◌≡◌, refl, sym, ap, ◌∙◌}
+use mathlib.Core.Bool.{Bool, true, false, not, cond}
 use mathlib.Core.List.{List}
 use native.Mathlib.Omega.{arith}
+use native.Mathlib.Decide.{dec_lt}
+use Rattle.std.specs.List.{range_with_len, prefix_len}
 use lib.ListN.{length, drop, drop_of_length-le}
+use lib.Dec.{ltb}
+use borrow.Author.Tests.{lt-ltb, ltb-false, ltb-true, not-false, not-true}
+use Rattle.base.specs.Loops.{first_from}
+use Rattle.base.specs.Halving.{PassInFront}
+use Rattle.base.proofs.Found.{before_first, at_first}
 use Rattle.rules.proofs.Laws.{record_past, side_from}
-use Rattle.rules.specs.Records.{Record, Grammar, records, past, at, is_left_side, in_sequence}
+use Rattle.rules.specs.Records.{Record, Grammar, records, past, at, in_sequence}
 use Rattle.rules.specs.Grammar.{side_of, symbols_behind, at_start, left_side_of, left_of}
 use Rattle.rules.specs.Run.{side_length}
 use Rattle.grammar.specs.Asked.{Faultless}
@@ -14,53 +21,39 @@ use Rattle.grammar.proofs.Coded.{in_sequence_lem}
 use Rattle.grammar.proofs.LeftSides.{left_found}
 use Rattle.grammar.proofs.Sequence.{ascends, left_side_first}
 
--- ---- the halving of n records
-abbrev middle : ℕ → ℕ → ℕ
-middle low high = low + (high - low) / 2
+-- ---- the halving: it goes by the records of productions before p
+module _ (g : Grammar) (p : ℕ) where
+  unfoldable pub comes_before : ℕ → Bool
+  comes_before i = ltb (at g i).production p
 
--- the records below `low` are of productions before p, and the one at `high` is not
-pub record Halving (g : Grammar) (p low high : ℕ) : Type 0 where
-  pub ordered : low ≤ high
-  pub within : high ≤ length g
-  pub below : (j : ℕ) → j < low → (at g j).production < p
-  pub above : high < length g → p ≤ (at g high).production
+  pub before_is : (i x : ℕ) (b : Bool) → b ≡ ltb x p → x ≡ (at g i).production → b ≡ comes_before i
+  unfolding comes_before
+  before_is i x b e f = rw (e, f)
 
-pub halving_starts : (g : Grammar) (p n : ℕ) → n ≡ length g → Halving g p 0 n
-halving_starts g p n e = record {
-  ordered = omega arith;
-  within = omega arith;
-  below = λ j h. absurd (omega arith);
-  above = λ h. absurd (omega arith);
-}
-
--- a turn, and the end; x is the production of the record in the middle
-module _ (bytes : List ℕ) (clean : Faultless bytes) (p low high : ℕ) (so_far : Halving (records bytes) p low high) where
+module _ (bytes : List ℕ) (clean : Faultless bytes) (p n : ℕ) (size : n ≡ length (records bytes)) where
   sequence : (i : ℕ) → i < length (records bytes) → in_sequence (records bytes) i ≡ true
   sequence = in_sequence_lem (records bytes) clean
 
-  pub halving_low : (x : ℕ) → low < high → x ≡ (at (records bytes) (middle low high)).production → x < p
-      → Halving (records bytes) p (middle low high + 1) high
-  halving_low x l e h =
-      let w = so_far.within in
-      record {
-        ordered = omega arith;
-        within = w;
-        below = λ j m. let a = ascends (records bytes) sequence (middle low high) j (omega arith) (omega arith) in omega arith;
-        above = so_far.above;
-      }
+  pub before_in_front : PassInFront n (comes_before (records bytes) p)
+  unfolding comes_before
+  before_in_front i j l h e =
+      let a = ascends (records bytes) sequence j i (omega arith) l in
+      let b = ltb-true _ _ e in
+      lt-ltb _ _ (omega arith)
 
-  pub halving_high : (x : ℕ) → low < high → x ≡ (at (records bytes) (middle low high)).production → p ≤ x
-      → Halving (records bytes) p low (middle low high)
-  halving_high x l e h =
-      let w = so_far.within in
-      record { ordered = omega arith; within = omega arith; below = so_far.below; above = λ m. omega arith }
+  -- the first that does not come before
+  pub left_side_halved : (k : ℕ) → k ≤ n → k ≡ first_from (λ i. not (comes_before (records bytes) p i)) n 0 → k ≡ left_side_of (records bytes) p
+  unfolding comes_before
+  left_side_halved k w e = sym (left_side_first (records bytes) sequence p k (omega arith) below above)
+    where
+      below : (j : ℕ) → j < k → (at (records bytes) j).production < p
+      below j h = ltb-true _ _ (not-false _ (before_first (λ i. not (comes_before (records bytes) p i)) n 0 j (omega arith) (rw e at h)))
 
-  pub halving_ends : high ≤ low → low ≡ left_side_of (records bytes) p
-  halving_ends h =
-      let o = so_far.ordered in
-      let same : high ≡ low = omega arith in
-      let within : low ≤ length (records bytes) = rw same at so_far.within in
-      sym (left_side_first (records bytes) sequence p low within so_far.below (rw same at so_far.above))
+      above : k < length (records bytes) → p ≤ (at (records bytes) k).production
+      above h =
+          let first : ℕ = first_from (λ i. not (comes_before (records bytes) p i)) n 0 in
+          let t : not (comes_before (records bytes) p first) ≡ true = at_first (λ i. not (comes_before (records bytes) p i)) n 0 (omega arith) in
+          ltb-false _ _ (not-true _ (rw (sym e) at t))
 
 -- ---- what stands at the left side, and behind it; k is the record
 module _ (g : Grammar) (p k : ℕ) (e : k ≡ left_side_of g p) where
@@ -72,25 +65,24 @@ module _ (g : Grammar) (p k : ℕ) (e : k ≡ left_side_of g p) where
   unfolding side_length
   side_counted n f = f ∙ ap (λ (j : ℕ). length (symbols_behind g j)) e
 
--- ---- how many symbols stand behind a dot: `count` so far, up to record k
-module _ (g : Grammar) (k count t : ℕ) (rest : count + length (side_of (drop k g)) ≡ t) where
-  pub behind_turn : (b : Bool) → b ≡ at_start g k → b ≡ false → count + 1 + length (side_of (drop (k + 1) g)) ≡ t
-  unfolding at_start
-  behind_turn b e f =
-      let s : is_left_side (at g k) ≡ false = sym e ∙ f in
-      let l : length (side_of (drop k g)) ≡ suc (length (side_of (drop (k + 1) g))) = rw (side_from g k, s) in
-      omega arith
+-- ---- how many symbols stand behind a dot: the records up to the next left side
+symbols_counted : (g : Grammar) (n k : ℕ) → k + n ≡ length g → prefix_len (λ j. not (at_start g j)) (range_with_len k n) ≡ length (side_of (drop k g))
+unfolding side_of at_start
+symbols_counted g zero k e = let l : length g ≤ k = omega arith in rw (drop_of_length-le g l)
+symbols_counted g (suc n) k e = by_test (at_start g k) refl (symbols_counted g n (k + 1) (omega arith))
+  where
+    by_test : (b : Bool) → at_start g k ≡ b → prefix_len (λ j. not (at_start g j)) (range_with_len (k + 1) n) ≡ length (side_of (drop (k + 1) g))
+        → cond (not (at_start g k)) (1 + prefix_len (λ j. not (at_start g j)) (range_with_len (k + 1) n)) 0 ≡ length (side_of (drop k g))
+    by_test true f more = rw (side_from g k, f)
+    by_test false f more = rw (side_from g k, f) (omega arith)
 
-  pub behind_ends : (b : Bool) → b ≡ at_start g k → b ≡ true → count ≡ t
-  unfolding at_start
-  behind_ends b e f =
-      let s : is_left_side (at g k) ≡ true = sym e ∙ f in
-      let l : length (side_of (drop k g)) ≡ 0 = rw (side_from g k, s) in
-      omega arith
-
-  pub behind_over : (n : ℕ) → n ≡ length g → n ≤ k → count ≡ t
-  unfolding side_of
-  behind_over n e h =
-      let past : length g ≤ k = omega arith in
-      let l : length (side_of (drop k g)) ≡ 0 = rw (drop_of_length-le g past) in
-      omega arith
+pub behind_counted : (g : Grammar) (n i c : ℕ) → n ≡ length g → i ≤ length g
+    → c ≡ prefix_len (λ j. not (at_start g j)) (range_with_len (i + 1) (n - (i + 1))) → c ≡ length (symbols_behind g i)
+unfolding symbols_behind side_of
+behind_counted g n i c e h f = elim (dec_lt i n) [
+  | yes l ↦ f ∙ symbols_counted g (n - (i + 1)) (i + 1) (omega arith)
+  | no l ↦
+      let z : n - (i + 1) ≡ 0 = omega arith in
+      let past : length g ≤ i + 1 = omega arith in
+      rw (drop_of_length-le g past) (rw z at f)
+]

@@ -5,25 +5,16 @@ ghost use Rattle.rules.specs.Grammar.{left_side_of, left_of, symbols_behind};
 ghost use Rattle.rules.specs.Run.{side_length};
 ghost use Rattle.grammar.specs.Asked.{Faultless};
 
-// The left-side record of production p, or the number of records if there is none.
+// The left-side record of production p, or the number of records if there is none: behind it stand no symbols, as `side_length` counts.
 pub fn left_side_of(g: &[u8], p: usize) -> usize
     requires { Faultless g.now }
     ensures { (result ≡ left_side_of (records g.now) p) × (result ≤ length (records g.now)) }
 {
-    let mut low: usize = 0;
-    let mut high = grammar::records::record_count(g);
-    while low < high {
-        let middle = low + (high - low) / 2;
-        if grammar::records::production(g, middle) < p {
-            low = middle + 1;
-            continue;
-        }
-        high = middle;
-    }
-    low
+    let n = grammar::records::record_count(g);
+    base::partition_point(n, |i| grammar::records::production(g, i) < p)
 }
 
-// The nonterminal on the left of production p, or 0 if there is no such production.
+// The nonterminal on the left of production p, or 0 if there is no such production, as `left_of` of rules has it.
 pub fn left_symbol(g: &[u8], p: usize) -> usize
     requires { Faultless g.now }
     ensures { result ≡ left_of (records g.now) p }
@@ -41,14 +32,9 @@ fn count_behind(g: &[u8], i: usize) -> usize
     ensures { result ≡ length (symbols_behind (records g.now) i) }
 {
     let n = grammar::records::record_count(g);
-    let mut count: usize = 0;
-    for k in i + 1..n {
-        if grammar::items::at_start(g, k) {
-            return count;
-        }
-        count = count + 1;
-    }
-    count
+    (i + 1..n)
+        .take_while(|k| !grammar::items::at_start(g, *k))
+        .count()
 }
 
 // How many symbols production p has on its right, 0 if there is no such production.

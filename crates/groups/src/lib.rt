@@ -13,7 +13,7 @@ ghost use Rattle.groups.specs.Groups.{Rowed, Grouped, with_member, gathered, Onl
 
 use context_set::{clear_columns, columns_disjoint, join_columns};
 use lane::Lanes;
-use room::areas::{get_head, get_origin, put_head};
+use room::areas::{Heads, Origins, get, put};
 use room::slots::{closure_slot, row_slot};
 use rules::{ConflictIndex, StateIndex};
 
@@ -22,7 +22,7 @@ pub fn origin(work: &[u64], state: StateIndex) -> StateIndex
     requires { LongEnough work.now × IsState state }
     ensures { result.0 ≡ origin_in (view work.now) state.0 }
 {
-    StateIndex(get_origin(work, state) as usize)
+    StateIndex(get::<Origins>(work, state) as usize)
 }
 
 // The head of the state's group.
@@ -30,7 +30,7 @@ pub fn head(work: &[u64], state: StateIndex) -> usize
     requires { LongEnough work.now × IsState state }
     ensures { result ≡ head_in (view work.now) state.0 }
 {
-    get_head(work, state) as usize
+    get::<Heads>(work, state) as usize
 }
 
 // The row of the state, if it is a member of the group, is joined into the columns from the slot `at` on.
@@ -86,7 +86,7 @@ fn move_head(work: &mut [u64], state: StateIndex, from: usize, to: usize)
     if head(work, state) != from {
         return;
     }
-    put_head(work, state, to as u64);
+    put::<Heads>(work, state, to as u64);
 }
 
 // The group of t comes to the group of s. merge.rs: union

@@ -1,65 +1,38 @@
 // What a program reads: the bytes of a reader, into a room that is lent, and whether they could be read.
+ghost use Rattle.std.specs.Prelude.{IfOk};
 ghost use Rattle.input.specs.Counts.{IsPrefixLen};
 
 use std::io;
 use std::io::Read;
 
-// How many bytes were read; whether every read went well, or else why one failed; whether there are more than the room holds.
-#[derive(Drop)]
+// How many bytes were read, and whether there are more than the room holds: a fact of its own, on which no value hangs.
+#[derive(Clone, Copy)]
 pub struct File {
     pub size: usize,
-    pub readable: io::Result<()>,
     pub longer: bool,
 }
 
-// That the bytes could not be read into the room, and why.
-pub fn unread(room: &[u8], why: io::Error) -> File
-    ensures { IsPrefixLen result.size room.now }
-{
-    File {
-        size: 0,
-        readable: Err(why),
-        longer: false,
-    }
-}
-
-// Reads until the bytes end or the room is full.
-pub fn fill<R: Read>(from: &mut R, room: &mut [u8]) -> File
-    ensures { IsPrefixLen result.size room.new }
+// Reads until the bytes end or the room is full, and counts them. A read takes as many as it likes, so no iterator goes through them.
+pub fn fill<R: Read>(from: &mut R, room: &mut [u8]) -> io::Result<usize>
+    ensures { IfOk result (λ size. IsPrefixLen size room.new) }
 {
     let mut size = 0;
     while size < room.len() {
-        let more = match from.read(&mut room[size..]) {
-            Ok(more) => more,
-            Err(why) => return unread(room, why),
-        };
+        let more = from.read(&mut room[size..])?;
         if more == 0 {
             break;
         }
         size += more;
     }
-    File {
-        size,
-        readable: Ok(()),
-        longer: false,
-    }
+    Ok(size)
 }
 
 // Reads all bytes of a reader into the room, as far as it holds them.
-pub fn read<R: Read>(from: &mut R, room: &mut [u8]) -> File
-    ensures { IsPrefixLen result.size room.new }
+pub fn read<R: Read>(from: &mut R, room: &mut [u8]) -> io::Result<File>
+    ensures { IfOk result (λ file. IsPrefixLen file.size room.new) }
 {
-    let file = fill(from, room);
-    if file.size < room.len() {
-        return file;
-    }
+    let size = fill(from, room)?;
     let mut next = [0u8; 1];
-    match from.read(&mut next) {
-        Ok(more) => File {
-            size: file.size,
-            readable: Ok(()),
-            longer: 0 < more,
-        },
-        Err(why) => unread(room, why),
-    }
+    let longer = size == room.len() && 0 < from.read(&mut next)?;
+    Ok(File { size, longer })
 }

@@ -3,3 +3,4 @@
 
 pub mod files;
 pub mod numbers;
+pub mod rooms;

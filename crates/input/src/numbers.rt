@@ -2,45 +2,26 @@
 ghost use Rattle.std.specs.Prelude.{◌≡◌};
 ghost use Rattle.input.specs.Numbers.{with_digit, number_said};
 
-// A number, or none.
-#[derive(Drop)]
-pub enum Number {
-    Is(u64),
-    Isnt,
-}
-
 // The number with one more digit behind it; none if the byte is no digit, or the number has more than 64 bits.
-fn with_digit(n: u64, byte: u8) -> Number
+fn with_digit(n: u64, byte: u8) -> Option<u64>
     ensures { result ≡ with_digit n byte }
 {
-    if byte < b'0' {
-        return Number::Isnt;
+    if !byte.is_ascii_digit() {
+        return None;
     }
-    if b'9' < byte {
-        return Number::Isnt;
-    }
-    let digit = base::wide(byte) - 48;
-    if (u64::MAX - digit) / 10 < n {
-        return Number::Isnt;
-    }
-    Number::Is(10 * n + digit)
+    n.checked_mul(10)?.checked_add(u64::from(byte - b'0'))
 }
 
 // The number that the word says in decimal digits; none if something else stands there, or nothing.
-pub fn said(word: &[u8]) -> Number
+pub fn said(word: &[u8]) -> Option<u64>
     ensures { result ≡ number_said word.now }
 {
-    if word.len() == 0 {
-        return Number::Isnt;
+    if word.is_empty() {
+        return None;
     }
     let mut n = 0;
-    let mut i = 0;
-    while i < word.len() {
-        let Number::Is(more) = with_digit(n, word[i]) else {
-            return Number::Isnt;
-        };
-        n = more;
-        i += 1;
+    for &byte in word {
+        n = with_digit(n, byte)?;
     }
-    Number::Is(n)
+    Some(n)
 }

@@ -7,10 +7,12 @@ use native.Mathlib.Omega.{arith}
 use lib.ListN.{length}
 use lib.Dec.{eqb, ltb}
 use borrow.Author.Tests.{eqb-true, eqb-false, ltb-true, not-false, not-true}
+use Rattle.std.specs.Prelude.{Result, Ok, Err}
 use Rattle.base.specs.Pick.{pick}
 use Rattle.base.specs.Among.{Among, here, later}
 use Rattle.base.proofs.Found.{before_first, at_first, none_first}
 use Rattle.base.proofs.Tests.{or_false}
+use Rattle.rules.proofs.Answers.{err≢ok}
 use Rattle.rules.proofs.Laws.{length_records}
 use Rattle.rules.specs.Limits.{Limits}
 use Rattle.rules.specs.Records.{Grammar, at, records, bad_length, is_terminal, is_left_side, bad_record, in_sequence, out_of_sequence}
@@ -18,8 +20,6 @@ use Rattle.rules.specs.Tokens.{has}
 use Rattle.rules.specs.Grammar.{Symbol, nonterminal, terminal, symbols_behind, nonterminal_count, names_start, has_production, productive, first_fault, fault_at, first_start, first_without, first_barren, grammar_answer}
 use Rattle.rules.specs.declared.GrammarRefusal.{GrammarRefusal}
 use Rattle.rules.specs.declared.GrammarRefusal.TheVariants.{Length, BadRecord, OutOfSequence, NoString}
-use Rattle.rules.specs.declared.GrammarAnswer.{GrammarAnswer}
-use Rattle.rules.specs.declared.GrammarAnswer.TheVariants.{Coded, Refused}
 use Rattle.sets.proofs.Laws.{has_true, has_false}
 use Rattle.knuth.specs.Rules.{Rule}
 use Rattle.knuth.specs.Derivations.{DerivesTokens, Fruitful, Productive}
@@ -28,23 +28,20 @@ use Rattle.knuth.proofs.Productions.{nonterminal_below}
 use Rattle.knuth.proofs.Collected.{productive_derives}
 
 -- ---- refusals that are not given
-passed : (b : Bool) (r : GrammarRefusal) (x y : GrammarAnswer) → (Refused r ≡ y → ⊥) → pick b (Refused r) x ≡ y → (b ≡ false) × (x ≡ y)
+passed : (b : Bool) (r : GrammarRefusal) (x y : Result (Unit {0}) GrammarRefusal) → (Err r ≡ y → ⊥) → pick b (Err r) x ≡ y → (b ≡ false) × (x ≡ y)
 passed true r x y ne e = absurd (ne e)
 passed false r x y ne e = (refl, e)
 
-not_coded : (r : GrammarRefusal) → Refused r ≡ Coded → ⊥
-not_coded r e = let z : ◌≡◌ {A = ℕ} 0 1 = cc in omega arith
-
-pub coded_is_checked : (l : Limits) (bytes : List ℕ) → grammar_answer l bytes ≡ Coded → Checked l (records bytes)
+pub coded_is_checked : (l : Limits) (bytes : List ℕ) → grammar_answer l bytes ≡ Ok tt → Checked l (records bytes)
 unfolding grammar_answer first_fault first_start first_without first_barren
 coded_is_checked l bytes e =
     let g : Grammar = records bytes in
     let m : ℕ = nonterminal_count g in
-    let (_, e₃) = passed (bad_length l bytes) _ _ _ (not_coded _) e in
-    let (f₄, e₄) = passed (ltb (first_fault l g) (length g)) _ _ _ (not_coded _) e₃ in
-    let (f₆, e₆) = passed (ltb (first_start g) (length g)) _ _ _ (not_coded _) e₄ in
-    let (f₇, e₇) = passed (ltb (first_without g) m) _ _ _ (not_coded _) e₆ in
-    let (f₈, _) = passed (ltb (first_barren g) m) _ _ _ (not_coded _) e₇ in
+    let (_, e₃) = passed (bad_length l bytes) _ _ _ (err≢ok _ tt) e in
+    let (f₄, e₄) = passed (ltb (first_fault l g) (length g)) _ _ _ (err≢ok _ tt) e₃ in
+    let (f₆, e₆) = passed (ltb (first_start g) (length g)) _ _ _ (err≢ok _ tt) e₄ in
+    let (f₇, e₇) = passed (ltb (first_without g) m) _ _ _ (err≢ok _ tt) e₆ in
+    let (f₈, _) = passed (ltb (first_barren g) m) _ _ _ (err≢ok _ tt) e₇ in
     record {
       faultless = λ i h. none_first (λ i. bad_record l (at g i) || out_of_sequence l g i) (length g) i h f₄;
       start_once = λ i h. none_first (names_start g) (length g) i h f₆;
@@ -53,10 +50,10 @@ coded_is_checked l bytes e =
     }
 
 -- ---- refusal 3: there is a record
-pub coded_has_a_record : (l : Limits) (bytes : List ℕ) → grammar_answer l bytes ≡ Coded → 0 < length (records bytes)
+pub coded_has_a_record : (l : Limits) (bytes : List ℕ) → grammar_answer l bytes ≡ Ok tt → 0 < length (records bytes)
 unfolding grammar_answer bad_length
 coded_has_a_record l bytes e =
-    let (f, _) = passed (bad_length l bytes) _ _ _ (not_coded _) e in
+    let (f, _) = passed (bad_length l bytes) _ _ _ (err≢ok _ tt) e in
     let (some, rest) = or_false (eqb (length bytes) 0) _ f in
     let (_, whole) = or_false (ltb l.bytes (length bytes)) _ rest in
     omega (arith, length_records bytes, eqb-false (length bytes) 0 some, eqb-true (length bytes % 8) 0 (not-false _ whole))
@@ -102,7 +99,7 @@ first_barren_lem g left h =
     }
 
 -- the other refusals of a grammar
-not_no_string : (r : GrammarRefusal) (a : ℕ) → (r ≡ NoString a → ⊥) → Refused r ≡ Refused (NoString a) → ⊥
+not_no_string : (r : GrammarRefusal) (a : ℕ) → (r ≡ NoString a → ⊥) → ◌≡◌ {A = Result (Unit {0}) GrammarRefusal} (Err r) (Err (NoString a)) → ⊥
 not_no_string r a ne e = ne cc
 
 not_fault : (l : Limits) (g : Grammar) (i a : ℕ) → fault_at l g i ≡ NoString a → ⊥
@@ -113,7 +110,7 @@ not_fault l g i a e = by_test (bad_record l (at g i)) e
     by_test true e = let z : ◌≡◌ {A = ℕ} 0 1 = cc in omega arith
     by_test false e = let z : ◌≡◌ {A = ℕ} 0 1 = cc in omega arith
 
-pub no_string_barren : (l : Limits) (bytes : List ℕ) (a : ℕ) → grammar_answer l bytes ≡ Refused (NoString a) → Barren (records bytes) a
+pub no_string_barren : (l : Limits) (bytes : List ℕ) (a : ℕ) → grammar_answer l bytes ≡ Err (NoString a) → Barren (records bytes) a
 unfolding grammar_answer first_fault
 no_string_barren l bytes a e =
     let g : Grammar = records bytes in
@@ -126,6 +123,6 @@ no_string_barren l bytes a e =
     by_test g left (ltb (first_barren g) m) refl e₇
   where
     by_test : (g : Grammar) → NonterminalsLeft g → (b : Bool) → ltb (first_barren g) (nonterminal_count g) ≡ b
-        → pick b (Refused (NoString (first_barren g))) Coded ≡ Refused (NoString a) → Barren g a
+        → ◌≡◌ {A = Result (Unit {0}) GrammarRefusal} (pick b (Err (NoString (first_barren g))) (Ok tt)) (Err (NoString a)) → Barren g a
     by_test g left true f e = let q : first_barren g ≡ a = cc in rw q at (first_barren_lem g left (ltb-true _ _ f))
-    by_test g left false f e = absurd (not_coded (NoString a) (sym e))
+    by_test g left false f e = absurd (err≢ok (NoString a) tt (sym e))

@@ -11,7 +11,7 @@ use Rattle.base.specs.Lists.{keep, fold_over}
 use Rattle.base.proofs.EachLeft.{each_fold_turn, each_fold_end}
 use Rattle.rules.specs.Records.{Grammar, at, records}
 use Rattle.rules.specs.Tokens.{has}
-use Rattle.rules.specs.Grammar.{nonterminal, at_start, is_before}
+use Rattle.rules.specs.Grammar.{nonterminal, is_before}
 use Rattle.rules.specs.First.{Sets}
 use Rattle.rules.specs.States.{Entry}
 use Rattle.rules.specs.Lanes.{Trace, visit, on_table, enter, enter_start, items_before, empty_past, tokens_past}
@@ -24,9 +24,9 @@ use Rattle.marks.specs.Marks.{visited_in, item_visited}
 use Rattle.states.specs.StatesIn.{entry_in, run_in, first_of, state_in, states_in}
 use Rattle.states.proofs.States.{state_at, first_same}
 use Rattle.traces.specs.Whole.{un_closed, gone_back, over_item}
-use Rattle.traces.proofs.Whole.{close_goes, close_seen, back_closed, back_shifted, item_goes, item_stops}
+use Rattle.traces.proofs.Whole.{close_goes, close_seen, item_goes, item_stops}
 use Rattle.lane.specs.Changes.{start_entered, past_entered}
-use Rattle.lane.specs.Traces.{firsts_for, states_of, trace_of, OnlyLanes, Traceable, ShiftTraced, CloseTraced}
+use Rattle.lane.specs.Traces.{firsts_for, states_of, trace_of, OnlyLanes, Traceable, BackTraced, CloseTraced}
 use Rattle.lane.specs.declared.Lanes.{Lanes}
 use Rattle.lane.proofs.Frames.{firsts_same, entry_kept, only_none, only_both, only_visit, only_start, only_past, states_kept, firsts_kept, sized_kept}
 use Rattle.lane.proofs.Going.{Going, past_ready}
@@ -126,25 +126,13 @@ module _ (bytes : List ℕ) (lanes : Lanes) (c s i a first end : ℕ) (v q : Roo
     pub close_entered : not x ≡ true → close_rest bytes lanes c s a end v (k + 1) (trace_of lanes u) ≡ t
     close_entered e = over (trace_of lanes u) (entered ∙ sym (item_stops (records bytes) (firsts_for bytes v) (states_of lanes v) c s j (trace_of lanes q) (may ∙ not-true x e)))
 
-    module _ (z : Room) (b : Bool) (goes : not x ≡ false) (starts : b ≡ at_start (records bytes) j) where
-      firsts : firsts_for bytes u ≡ firsts_for bytes v
-      firsts = firsts_kept q u only (records bytes) going.ready.clean ∙ going.same_firsts
-
-      states : states_of lanes u ≡ states_of lanes v
-      states = states_kept q u only (length (records bytes)) lanes.states going.ready.placed ∙ going.same_states
-
-      onward : gone_back (records bytes) (firsts_for bytes v) (states_of lanes v) c s j (trace_of lanes u) ≡ step bytes lanes c s v j (trace_of lanes q)
-      onward = rw entered (sym (item_goes (records bytes) (firsts_for bytes v) (states_of lanes v) c s j (trace_of lanes q) (may ∙ not-false x goes)))
-
-      pub close_closed : b ≡ true → CloseTraced bytes lanes c s j u z → close_rest bytes lanes c s a end v (k + 1) (trace_of lanes z) ≡ t
-      close_closed e went =
-          over (trace_of lanes z)
-          ((rw (firsts, states) at went.trace) ∙ sym (back_closed (records bytes) (firsts_for bytes v) (states_of lanes v) c s j (trace_of lanes u) (sym starts ∙ e)) ∙ onward)
-
-      pub close_shifted : b ≡ false → ShiftTraced bytes lanes c s j u z → close_rest bytes lanes c s a end v (k + 1) (trace_of lanes z) ≡ t
-      close_shifted e went =
-          over (trace_of lanes z)
-          ((rw (firsts, states) at went.trace) ∙ sym (back_shifted (records bytes) (firsts_for bytes v) (states_of lanes v) c s j (trace_of lanes u) (sym starts ∙ e)) ∙ onward)
+    pub close_back : (z : Room) → not x ≡ false → BackTraced bytes lanes c s j u z → close_rest bytes lanes c s a end v (k + 1) (trace_of lanes z) ≡ t
+    close_back z goes went =
+        let firsts : firsts_for bytes u ≡ firsts_for bytes v = firsts_kept q u only (records bytes) going.ready.clean ∙ going.same_firsts in
+        let states : states_of lanes u ≡ states_of lanes v = states_kept q u only (length (records bytes)) lanes.states going.ready.placed ∙ going.same_states in
+        let onward : gone_back (records bytes) (firsts_for bytes v) (states_of lanes v) c s j (trace_of lanes u) ≡ step bytes lanes c s v j (trace_of lanes q) =
+        rw entered (sym (item_goes (records bytes) (firsts_for bytes v) (states_of lanes v) c s j (trace_of lanes q) (may ∙ not-false x goes))) in
+        over (trace_of lanes z) ((rw (firsts, states) at went.trace) ∙ onward)
 
 -- ---- the end
 items_whole : (g : Grammar) (count s a first end : ℕ) (v : Room) → s < count → first ≡ first_of v s → end ≡ first_of v (s + 1) → items_up_to g a v first end ≡ items_before g (states_in v count) s a

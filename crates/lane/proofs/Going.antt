@@ -1,6 +1,6 @@
 -- A trace under way: v is the room where a loop over predecessors or items begins, q the room at hand.
-use Prim.Native.Nat.{ℕ, ◌-◌, ◌≤◌, ◌<◌}
-use mathlib.Core.Path.{◌≡◌, refl, ap, ◌∙◌}
+use Prim.Native.Nat.{ℕ, ◌+◌, ◌*◌, ◌-◌, ◌≤◌, ◌<◌}
+use mathlib.Core.Path.{◌≡◌, refl, sym, ap, ◌∙◌}
 use mathlib.Core.Bool.{Bool, true, false}
 use mathlib.Core.List.{List}
 use native.Mathlib.Omega.{arith}
@@ -9,7 +9,7 @@ use lib.Dec.{eqb}
 use Rattle.base.specs.Pick.{pick}
 use Rattle.rules.specs.Records.{at, records}
 use Rattle.rules.specs.Tokens.{has, eof}
-use Rattle.rules.specs.Grammar.{start, terminal_count}
+use Rattle.rules.specs.Grammar.{start, at_start, terminal_count}
 use Rattle.rules.specs.First.{Sets}
 use Rattle.rules.specs.Lanes.{LaneTable, on_table, enter, add_successor, enter_start, tokens_past}
 use Rattle.grammar.specs.Asked.{InRange}
@@ -19,10 +19,11 @@ use Rattle.room.proofs.Lengths.{Lengths, view_lengths}
 use Rattle.marks.specs.Marks.{visited_in, successor_added, item_visited}
 use Rattle.states.proofs.States.{states_length}
 use Rattle.traces.specs.Whole.{pairs_left}
+use Rattle.traces.proofs.Whole.{back_closed, back_shifted}
 use Rattle.traces.proofs.Left.{shift_left, close_left_lem, visit_left, table_left}
 use Rattle.lane.specs.declared.Lanes.{Lanes}
 use Rattle.lane.specs.Changes.{start_entered, past_entered}
-use Rattle.lane.specs.Traces.{firsts_for, states_of, trace_of, left_in, OnlyLanes, Traceable, ShiftTraced, CloseTraced}
+use Rattle.lane.specs.Traces.{firsts_for, states_of, trace_of, left_in, OnlyLanes, Traceable, BackTraced, ShiftTraced, CloseTraced}
 use Rattle.lane.proofs.Frames.{only_none, only_both, only_visit, only_link, only_start, only_past, placed_kept, linked_kept, states_kept, firsts_kept, sized_kept}
 use Rattle.lane.proofs.Pairs.{small, was, visited_now}
 use Rattle.lane.proofs.Changed.{visited_length, linked_trace, entered_by_hand, start_trace}
@@ -50,6 +51,20 @@ ready_kept bytes lanes c s i v q only ready = record {
   placed = placed_kept v q only (length (records bytes)) lanes.states ready.placed;
   linked = linked_kept v q only bytes lanes.states ready.linked;
 }
+
+-- ---- the half that the dot asks for
+module _ (bytes : List ℕ) (lanes : Lanes) (c s i : ℕ) (v z : Room) (b : Bool) (tested : b ≡ at_start (records bytes) i) where
+  pub back_by_close : b ≡ true → CloseTraced bytes lanes c s i v z → BackTraced bytes lanes c s i v z
+  back_by_close e went = record {
+    trace = went.trace ∙ sym (back_closed (records bytes) (firsts_for bytes v) (states_of lanes v) c s i (trace_of lanes v) (sym tested ∙ e));
+    only = went.only;
+  }
+
+  pub back_by_shift : b ≡ false → ShiftTraced bytes lanes c s i v z → BackTraced bytes lanes c s i v z
+  back_by_shift e went = record {
+    trace = went.trace ∙ sym (back_shifted (records bytes) (firsts_for bytes v) (states_of lanes v) c s i (trace_of lanes v) (sym tested ∙ e));
+    only = went.only;
+  }
 
 -- ---- how many pairs are left
 module _ (bytes : List ℕ) (lanes : Lanes) (c s i : ℕ) (q : Room) (ready : Traceable bytes lanes c s i q) (sized : Lengths q) where
@@ -87,6 +102,13 @@ module _ (bytes : List ℕ) (lanes : Lanes) (c s i : ℕ) (q z : Room) (low : s 
   closed_left : CloseTraced bytes lanes c s i q z → left_in bytes lanes z ≤ left_in bytes lanes q
   closed_left went =
       rw went.trace (close_left_lem (records bytes) (firsts_for bytes q) (states_of lanes q) c lanes.states (states_length q lanes.states) s i (trace_of lanes q) low (visited_length q lanes.states))
+
+  back_left : BackTraced bytes lanes c s i q z → left_in bytes lanes z ≤ left_in bytes lanes q
+  back_left went = go (at_start (records bytes) i) refl
+    where
+      go : (b : Bool) → at_start (records bytes) i ≡ b → left_in bytes lanes z ≤ left_in bytes lanes q
+      go true e = closed_left (record { trace = went.trace ∙ back_closed (records bytes) (firsts_for bytes q) (states_of lanes q) c s i (trace_of lanes q) e; only = went.only })
+      go false e = shifted_left (record { trace = went.trace ∙ back_shifted (records bytes) (firsts_for bytes q) (states_of lanes q) c s i (trace_of lanes q) e; only = went.only })
 
 -- ---- the loops begin
 module _ (bytes : List ℕ) (lanes : Lanes) (c s i : ℕ) where
@@ -129,26 +151,17 @@ module _ (bytes : List ℕ) (lanes : Lanes) (c s i : ℕ) (v q : Room) (going : 
 
   -- a trace went on from the room at hand
   module _ (p j : ℕ) (z : Room) (low : p < lanes.states) where
-    going_shifted : ShiftTraced bytes lanes c p j q z → Going bytes lanes c s i v z
-    going_shifted went = going_on z went.only (shifted_left bytes lanes c p j q z low went)
-
-    going_closed : CloseTraced bytes lanes c p j q z → Going bytes lanes c s i v z
-    going_closed went = going_on z went.only (closed_left bytes lanes c p j q z low went)
+    going_back : BackTraced bytes lanes c p j q z → Going bytes lanes c s i v z
+    going_back went = going_on z went.only (back_left bytes lanes c p j q z low went)
 
 module _ (bytes : List ℕ) (lanes : Lanes) (c s i : ℕ) (v q u z : Room) (going : Going bytes lanes c s i v q) where
   module _ (p : ℕ) (low : p < lanes.states) (links : u ≡ successor_added p s q) where
-    pub linked_closed : CloseTraced bytes lanes c p (i - 1) u z → Going bytes lanes c s i v z
-    linked_closed went = going_closed bytes lanes c s i v u (going_linked bytes lanes c s i v q going p u low links) p (i - 1) z low went
-
-    pub linked_shifted : ShiftTraced bytes lanes c p (i - 1) u z → Going bytes lanes c s i v z
-    linked_shifted went = going_shifted bytes lanes c s i v u (going_linked bytes lanes c s i v q going p u low links) p (i - 1) z low went
+    pub linked_back : BackTraced bytes lanes c p (i - 1) u z → Going bytes lanes c s i v z
+    linked_back went = going_back bytes lanes c s i v u (going_linked bytes lanes c s i v q going p u low links) p (i - 1) z low went
 
   module _ (sets : Sets) (j : ℕ) (enters : u ≡ past_entered (records bytes) sets s c j q) where
-    pub past_closed : CloseTraced bytes lanes c s j u z → Going bytes lanes c s i v z
-    past_closed went = going_closed bytes lanes c s i v u (going_past bytes lanes c s i v q going sets j u enters) s j z going.ready.state went
-
-    pub past_shifted : ShiftTraced bytes lanes c s j u z → Going bytes lanes c s i v z
-    past_shifted went = going_shifted bytes lanes c s i v u (going_past bytes lanes c s i v q going sets j u enters) s j z going.ready.state went
+    pub past_back : BackTraced bytes lanes c s j u z → Going bytes lanes c s i v z
+    past_back went = going_back bytes lanes c s i v u (going_past bytes lanes c s i v q going sets j u enters) s j z going.ready.state went
 
 -- ---- a trace can go on from there
 ready_at : (bytes : List ℕ) (lanes : Lanes) (c s i p j : ℕ) (q : Room) → Traceable bytes lanes c s i q → p < lanes.states → InRange j bytes → Traceable bytes lanes c p j q
@@ -175,19 +188,19 @@ past_ready bytes lanes c s i j v q u sets going item enters =
     ready_at bytes lanes c s i s j u (going_past bytes lanes c s i v q going sets j u enters).ready going.ready.state item
 
 -- ---- a pair was visited that was not visited before: the pairs that are left fall
-module _ (bytes : List ℕ) (lanes : Lanes) (c s i t : ℕ) (w : List ℕ) (b : Bool) (v : Room) (is : left_in bytes lanes (view w) ≡ t)
+module _ (bytes : List ℕ) (lanes : Lanes) (c s i t : ℕ) (w : List ℕ) (b : Bool) (v : Room) (is : 2 * left_in bytes lanes (view w) ≡ t)
     (ready : Traceable bytes lanes c s i (view w)) (fits : LongEnough w) (tested : b ≡ has (visited_in (view w) s) i) (new : b ≡ false) (visits : v ≡ item_visited s i (view w)) where
-  falls : left_in bytes lanes v < t
+  falls : 2 * left_in bytes lanes v + 1 < t
   falls =
       rw (visited_now bytes lanes c s i w ready v fits visits)
       (omega (arith, visit_left (records bytes) (firsts_for bytes (view w)) (states_of lanes (view w)) 0 lanes.states (states_length (view w) lanes.states) s i (trace_of lanes (view w)) ready.state (visited_length (view w) lanes.states) (small bytes lanes c s i w ready) (was bytes lanes c s i w ready b tested ∙ new)))
 
   -- in the loop over predecessors, one of which was linked
-  pub linked_falls : (q u : Room) (p : ℕ) → Going bytes lanes c s i v q → p < lanes.states → u ≡ successor_added p s q → left_in bytes lanes u < t
+  pub linked_falls : (q u : Room) (p : ℕ) → Going bytes lanes c s i v q → p < lanes.states → u ≡ successor_added p s q → 2 * left_in bytes lanes u + 1 < t
   linked_falls q u p going low links = omega (arith, falls, (going_linked bytes lanes c s i v q going p u low links).fewer)
 
   -- and in the loop over items, where FIRST of what follows one was entered
-  pub past_falls : (x q u : Room) (sets : Sets) (j : ℕ) → x ≡ start_entered (records bytes) s c i v → Going bytes lanes c s i x q → u ≡ past_entered (records bytes) sets s c j q → left_in bytes lanes u < t
+  pub past_falls : (x q u : Room) (sets : Sets) (j : ℕ) → x ≡ start_entered (records bytes) s c i v → Going bytes lanes c s i x q → u ≡ past_entered (records bytes) sets s c j q → 2 * left_in bytes lanes u + 1 < t
   past_falls x q u sets j starts going enters =
       let begun = going_visited bytes lanes c s i w v ready fits visits in
       let same : left_in bytes lanes x ≡ left_in bytes lanes v = rw starts (start_left bytes lanes c s i v begun.ready begun.sized) in

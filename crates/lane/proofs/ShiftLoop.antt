@@ -11,8 +11,7 @@ use Rattle.base.specs.Lists.{some_of, fold_over}
 use Rattle.base.proofs.ListLoops.{kept, kept_start, kept_fold_turn, kept_fold_end}
 use Rattle.rules.specs.Records.{Grammar, at, records}
 use Rattle.rules.specs.Tokens.{has}
-use Rattle.rules.specs.Grammar.{symbol_of, at_start}
-use Rattle.rules.specs.First.{Sets}
+use Rattle.rules.specs.Grammar.{symbol_of}
 use Rattle.rules.specs.States.{State}
 use Rattle.rules.specs.Lanes.{Trace, on_table, add_successor, predecessors}
 use Rattle.room.specs.Areas.{Room, view}
@@ -21,9 +20,9 @@ use Rattle.marks.specs.Marks.{visited_in, successor_added, item_visited}
 use Rattle.states.specs.StatesIn.{state_in}
 use Rattle.states.proofs.States.{state_at, states_length}
 use Rattle.state_graph.specs.Graph.{leads_to, precedes, symbol_at}
-use Rattle.traces.specs.Whole.{un_shifted, un_closed, over_predecessor}
-use Rattle.traces.proofs.Whole.{shift_goes, shift_seen, back_closed, back_shifted, predecessor_goes}
-use Rattle.lane.specs.Traces.{firsts_for, states_of, trace_of, Traceable, ShiftTraced, CloseTraced}
+use Rattle.traces.specs.Whole.{un_shifted, over_predecessor}
+use Rattle.traces.proofs.Whole.{shift_goes, shift_seen, predecessor_goes}
+use Rattle.lane.specs.Traces.{firsts_for, states_of, trace_of, Traceable, BackTraced, ShiftTraced}
 use Rattle.lane.specs.declared.Lanes.{Lanes}
 use Rattle.lane.proofs.Frames.{only_none, only_both, only_visit, only_link, states_kept}
 use Rattle.lane.proofs.Going.{Going}
@@ -41,14 +40,6 @@ step bytes lanes c s i v = over_predecessor (records bytes) (firsts_for bytes v)
 unfoldable pub shift_rest : List ℕ → Lanes → ℕ → ℕ → ℕ → Room → ℕ → Trace → Trace
 shift_rest bytes lanes c s i v next trace = fold_over (step bytes lanes c s i v) (kept (before bytes lanes s i v) lanes.states next) trace
 
--- ---- what is done at a predecessor
-module _ (g : Grammar) (sets : Sets) (states : List State) (c s i p : ℕ) (trace : Trace) (b : Bool) (starts : b ≡ at_start g (i - 1)) where
-  over_closed : b ≡ true → un_closed g sets states c p (i - 1) (on_table (add_successor p s) trace) ≡ over_predecessor g sets states c s i p trace
-  over_closed t = sym (predecessor_goes g sets states c s i trace p ∙ back_closed g sets states c p (i - 1) _ (sym starts ∙ t))
-
-  over_shifted : b ≡ false → un_shifted g sets states c p (i - 1) (on_table (add_successor p s) trace) ≡ over_predecessor g sets states c s i p trace
-  over_shifted f = sym (predecessor_goes g sets states c s i trace p ∙ back_shifted g sets states c p (i - 1) _ (sym starts ∙ f))
-
 -- ---- a turn
 module _ (bytes : List ℕ) (lanes : Lanes) (c s i next : ℕ) (v q : Room) (t : Trace) (d : Bool) (going : Going bytes lanes c s i v q) (here : next < lanes.states)
     (tested : d ≡ some_of (leads_to (records bytes) s (symbol_at bytes i)) (state_in q next)) (left : shift_rest bytes lanes c s i v next (trace_of lanes q) ≡ t) where
@@ -63,7 +54,7 @@ module _ (bytes : List ℕ) (lanes : Lanes) (c s i next : ℕ) (v q : Room) (t :
   pub shift_passed : not d ≡ true → shift_rest bytes lanes c s i v (next + 1) (trace_of lanes q) ≡ t
   shift_passed e = turn (trace_of lanes q) (rw (not-true d e))
 
-  module _ (u z : Room) (b : Bool) (leads : not d ≡ false) (links : u ≡ successor_added next s q) (starts : b ≡ at_start (records bytes) (i - 1)) where
+  module _ (u z : Room) (leads : not d ≡ false) (links : u ≡ successor_added next s q) where
     linked : trace_of lanes u ≡ on_table (add_successor next s) (trace_of lanes q)
     linked =
         ap (trace_of lanes) links
@@ -75,18 +66,11 @@ module _ (bytes : List ℕ) (lanes : Lanes) (c s i next : ℕ) (v q : Room) (t :
     states : states_of lanes u ≡ states_of lanes v
     states = states_kept q u (only_link q u next s links) (length (records bytes)) lanes.states going.ready.placed ∙ going.same_states
 
-    over : (y : Trace) → y ≡ step bytes lanes c s i v next (trace_of lanes q) → shift_rest bytes lanes c s i v (next + 1) y ≡ t
-    over y e = turn y (rw (not-false d leads) e)
-
-    pub shift_closed : b ≡ true → CloseTraced bytes lanes c next (i - 1) u z → shift_rest bytes lanes c s i v (next + 1) (trace_of lanes z) ≡ t
-    shift_closed e went =
-        over (trace_of lanes z)
-        ((rw (firsts, states, linked) at went.trace) ∙ over_closed (records bytes) (firsts_for bytes v) (states_of lanes v) c s i next (trace_of lanes q) b starts e)
-
-    pub shift_shifted : b ≡ false → ShiftTraced bytes lanes c next (i - 1) u z → shift_rest bytes lanes c s i v (next + 1) (trace_of lanes z) ≡ t
-    shift_shifted e went =
-        over (trace_of lanes z)
-        ((rw (firsts, states, linked) at went.trace) ∙ over_shifted (records bytes) (firsts_for bytes v) (states_of lanes v) c s i next (trace_of lanes q) b starts e)
+    pub shift_back : BackTraced bytes lanes c next (i - 1) u z → shift_rest bytes lanes c s i v (next + 1) (trace_of lanes z) ≡ t
+    shift_back went =
+        turn (trace_of lanes z)
+        (rw (not-false d leads)
+        ((rw (firsts, states, linked) at went.trace) ∙ sym (predecessor_goes (records bytes) (firsts_for bytes v) (states_of lanes v) c s i (trace_of lanes q) next)))
 
 -- ---- the end
 kept_predecessors : (g : Grammar) (states : List State) (s i count : ℕ) → length states ≡ count → kept (precedes g states s (symbol_of (at g i))) count 0 ≡ predecessors g states s (symbol_of (at g i))

@@ -13,7 +13,7 @@ use Rattle.lookahead.specs.Sets.{set_at}
 use Rattle.first.specs.Firsts.{firsts_in}
 use Rattle.states.specs.StatesIn.{states_in, Placed}
 use Rattle.state_graph.specs.Links.{Linked}
-use Rattle.traces.specs.Whole.{pairs_left, un_shifted, un_closed}
+use Rattle.traces.specs.Whole.{pairs_left, un_shifted, un_closed, gone_back}
 use Rattle.lane.specs.declared.Lanes.{Lanes}
 use Rattle.lane.specs.Table.{first_cell, trace_in}
 
@@ -64,7 +64,10 @@ pub record Traced (lanes : Lanes) (after : Trace) (v q : Room) : Type 0 where
   pub trace : trace_of lanes q ≡ after
   pub only : OnlyLanes v q
 
--- the trace of column c back from item i in state s: its dot is past 0; it is 0
+-- the trace of column c back from item i in state s: whichever half goes on there; its dot is past 0; it is 0
+abbrev pub BackTraced : List ℕ → Lanes → ℕ → ℕ → ℕ → Room → Room → Type 0
+BackTraced bytes lanes c s i v q = Traced lanes (gone_back (records bytes) (firsts_for bytes v) (states_of lanes v) c s i (trace_of lanes v)) v q
+
 abbrev pub ShiftTraced : List ℕ → Lanes → ℕ → ℕ → ℕ → Room → Room → Type 0
 ShiftTraced bytes lanes c s i v q = Traced lanes (un_shifted (records bytes) (firsts_for bytes v) (states_of lanes v) c s i (trace_of lanes v)) v q
 

@@ -6,7 +6,7 @@ ghost use Rattle.lookahead.specs.Sets.{set_at};
 ghost use Rattle.lane.specs.Changes.{tokens_entered};
 
 use lookahead::join_into;
-use room::areas::put_entered;
+use room::areas::{Entered, put};
 use room::slots::row_slot;
 use rules::{ConflictIndex, StateIndex};
 
@@ -15,7 +15,7 @@ pub fn add_lookahead(work: &mut [u64], state: StateIndex, column: ConflictIndex,
     requires { LongEnough work.old × IsState state × IsColumn column × IsSlot from }
     ensures { view work.new ≡ tokens_entered state.0 column.0 (set_at (view work.old) from) (view work.old) }
 {
-    put_entered(work, state, 1);
+    put::<Entered>(work, state, 1);
     let cell = row_slot(state, column);
     join_into(work, cell, from);
 }

@@ -7,7 +7,7 @@ ghost use Rattle.grammar.specs.Asked.{InRange, Faultless};
 ghost use Rattle.room.specs.Areas.{view};
 ghost use Rattle.room.specs.Bounds.{LongEnough, IsState, IsColumn, FewTerminals};
 ghost use Rattle.lane.specs.Changes.{start_entered, past_entered};
-ghost use Rattle.lane.specs.Traces.{firsts_for, Traceable, ShiftTraced, CloseTraced};
+ghost use Rattle.lane.specs.Traces.{firsts_for, Traceable, BackTraced, ShiftTraced, CloseTraced};
 
 use super::Lanes;
 use super::table::add_lookahead;
@@ -16,8 +16,7 @@ use grammar::items::{at_start, before_nonterminal};
 use grammar::records::symbol;
 use grammar_numbers::counts::start;
 use lookahead::put_eof;
-use marks::successors::add_successor;
-use marks::visited::{visit, was_visited};
+use marks::{Successors, Visited, has, mark};
 use room::slots::hand_slot;
 use rules::{ConflictIndex, StateIndex};
 use state_graph::leads;
@@ -64,6 +63,26 @@ fn enter_past(
     empty
 }
 
+// The trace goes on from item i, by the half that its dot asks for. lane/mod.rs: continue_trace
+#[cycle(un_close_un_shift)]
+pub fn go_back(
+    g: &[u8],
+    lanes: Lanes,
+    column: ConflictIndex,
+    state: StateIndex,
+    i: usize,
+    work: &mut [u64],
+)
+    requires { Traceable g.now lanes column.0 state.0 i (view work.old) × LongEnough work.old }
+    ensures { BackTraced g.now lanes column.0 state.0 i (view work.old) (view work.new) }
+{
+    if at_start(g, i) {
+        un_close(g, lanes, column, state, i, work);
+    } else {
+        un_shift(g, lanes, column, state, i, work);
+    }
+}
+
 // The dot of item i is past 0: every predecessor over the symbol before the dot gets the state as successor, and the trace goes on
 // there. lane/mod.rs: continue_trace, the half that goes back over a symbol
 #[cycle(un_close_un_shift)]
@@ -78,25 +97,17 @@ pub fn un_shift(
     requires { Traceable g.now lanes column.0 state.0 i (view work.old) × LongEnough work.old × (at_start (records g.now) i ≡ false) }
     ensures { ShiftTraced g.now lanes column.0 state.0 i (view work.old) (view work.new) }
 {
-    if was_visited(work, state, i) {
+    if has::<Visited>(work, state, i) {
         return;
     }
-    visit(work, state, i);
-    let count = lanes.states;
-    let before = i - 1;
-    let mut next: usize = 0;
-    while next < count {
+    mark::<Visited>(work, state, i);
+    for next in 0..lanes.states {
         let p = StateIndex(next);
-        next += 1;
         if !leads(g, work, p, state, i) {
             continue;
         }
-        add_successor(work, p, state);
-        if at_start(g, before) {
-            un_close(g, lanes, column, p, before, work);
-            continue;
-        }
-        un_shift(g, lanes, column, p, before, work);
+        mark::<Successors>(work, p, state);
+        go_back(g, lanes, column, p, i - 1, work);
     }
 }
 
@@ -114,28 +125,23 @@ pub fn un_close(
     requires { Traceable g.now lanes column.0 state.0 i (view work.old) × LongEnough work.old }
     ensures { CloseTraced g.now lanes column.0 state.0 i (view work.old) (view work.new) }
 {
-    if was_visited(work, state, i) {
+    if has::<Visited>(work, state, i) {
         return;
     }
-    visit(work, state, i);
+    mark::<Visited>(work, state, i);
     let n = lanes.terminals;
     enter_start(g, n, column, state, i, work);
     let a = symbol(g, i);
+    let first = first_entry(work, state);
     let end = end_entry(work, state);
-    let mut k = first_entry(work, state);
-    while k < end {
+    for k in first..end {
         let j = item(work, k);
-        k += 1;
         if !before_nonterminal(g, a, j) {
             continue;
         }
         if !enter_past(g, n, column, state, j, work) {
             continue;
         }
-        if at_start(g, j) {
-            un_close(g, lanes, column, state, j, work);
-            continue;
-        }
-        un_shift(g, lanes, column, state, j, work);
+        go_back(g, lanes, column, state, j, work);
     }
 }

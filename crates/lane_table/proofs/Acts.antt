@@ -1,15 +1,12 @@
 -- The trace of one action: the tokens of a shift or the empty set of a reduction are entered, and a reduction goes back.
-use Prim.Native.Nat.{ℕ, ◌/◌, ◌%◌, ◌≤◌, ◌<◌}
+use Prim.Native.Nat.{ℕ, ◌≤◌, ◌<◌}
 use mathlib.Core.Path.{◌≡◌, sym, ap, ◌∙◌}
-use mathlib.Core.Bool.{Bool, true, false}
 use mathlib.Core.List.{List}
 use native.Mathlib.Omega.{arith}
 use lib.ListN.{length, replicate}
-use borrow.Author.Tests.{eq-eqb, ne_eqb}
 use Rattle.rules.specs.Limits.{max_states, max_columns}
 use Rattle.rules.specs.Records.{records}
 use Rattle.rules.specs.Tokens.{single}
-use Rattle.rules.specs.Grammar.{at_start}
 use Rattle.rules.specs.Lanes.{shift, reduce, Trace, enter, on_table, trace_action}
 use Rattle.grammar.specs.Asked.{InRange}
 use Rattle.room.specs.Areas.{Room, view}
@@ -20,14 +17,18 @@ use Rattle.lookahead.specs.Sets.{IsToken, set_at, put_set}
 use Rattle.states.proofs.States.{states_length}
 use Rattle.state_graph.specs.Links.{Linked}
 use Rattle.traces.specs.Whole.{trace_begun}
-use Rattle.traces.proofs.Whole.{action_goes, back_closed, back_shifted}
+use Rattle.traces.proofs.Whole.{action_goes}
+use Rattle.lane_table.specs.declared.area.Action.{Action}
+use Rattle.lane_table.specs.declared.area.Action.TheVariants.{Shift, Reduce}
+use Rattle.lane_table.specs.Numbers.{number_of}
 use Rattle.lane_table.specs.Actions.{action_of, ActionFits, Tracing, table_of, ActionTraced}
 use Rattle.lane.specs.Changes.{tokens_entered, hand_entered}
 use Rattle.lane_table.specs.Clears.{VisitsCleared}
-use Rattle.lane.specs.Traces.{firsts_for, states_of, trace_of, OnlyLanes, Traceable, ShiftTraced, CloseTraced}
+use Rattle.lane.specs.Traces.{firsts_for, states_of, trace_of, OnlyLanes, Traceable, BackTraced}
 use Rattle.lane.specs.declared.Lanes.{Lanes}
 use Rattle.lane.proofs.Cells.{entered_by}
 use Rattle.lane_table.proofs.Clears.{cleared_trace, cleared_only}
+use Rattle.lane_table.proofs.Numbers.{shift_number, reduce_number, shifted_token, reduced_item}
 use Rattle.lane.proofs.Frames.{only_both, hand_enters, states_kept, firsts_kept}
 use Rattle.lane.proofs.Going.{ready_kept}
 use Rattle.lane.proofs.Changed.{entered_by_hand}
@@ -71,24 +72,15 @@ module _ (bytes : List ℕ) (lanes : Lanes) (c s i hand n : ℕ) (w w₁ : List 
   firsts : firsts_for bytes q ≡ firsts_for bytes (view w)
   firsts = firsts_kept (view w) q begun_only (records bytes) ready.clean
 
-  module _ (z : Room) (b : Bool) (all : n ≡ lanes.states) (starts : b ≡ at_start (records bytes) i) where
-    pub reduce_closed : b ≡ true → CloseTraced bytes lanes c s i q z → ActionTraced bytes lanes c s (reduce i) (view w) z
-    reduce_closed e went = record {
-      table =
-          ap (λ (x : Trace). x.table) ((rw (firsts, states, begins all) at went.trace) ∙ sym (back_closed (records bytes) (firsts_for bytes (view w)) (states_of lanes (view w)) c s i _ (sym starts ∙ e)))
-          ∙ sym (action_goes (records bytes) (firsts_for bytes (view w)) (states_of lanes (view w)) s c i (table_of lanes (view w)));
-      only = only_both (view w) q z begun_only went.only;
-    }
+  pub reduce_acted : (z : Room) → n ≡ lanes.states → BackTraced bytes lanes c s i q z → ActionTraced bytes lanes c s (reduce i) (view w) z
+  reduce_acted z all went = record {
+    table =
+        ap (λ (x : Trace). x.table) (rw (firsts, states, begins all) at went.trace)
+        ∙ sym (action_goes (records bytes) (firsts_for bytes (view w)) (states_of lanes (view w)) s c i (table_of lanes (view w)));
+    only = only_both (view w) q z begun_only went.only;
+  }
 
-    pub reduce_shifted : b ≡ false → ShiftTraced bytes lanes c s i q z → ActionTraced bytes lanes c s (reduce i) (view w) z
-    reduce_shifted e went = record {
-      table =
-          ap (λ (x : Trace). x.table) ((rw (firsts, states, begins all) at went.trace) ∙ sym (back_shifted (records bytes) (firsts_for bytes (view w)) (states_of lanes (view w)) c s i _ (sym starts ∙ e)))
-          ∙ sym (action_goes (records bytes) (firsts_for bytes (view w)) (states_of lanes (view w)) s c i (table_of lanes (view w)));
-      only = only_both (view w) q z begun_only went.only;
-    }
-
--- ---- an action by its number
+-- ---- an action
 traceable_at : (bytes : List ℕ) (lanes : Lanes) (c s i : ℕ) (v : Room) → Tracing bytes lanes s v → Linked bytes lanes.states v → c < lanes.columns → InRange i bytes → Traceable bytes lanes c s i v
 traceable_at bytes lanes c s i v tracing linked column item = record {
   clean = tracing.clean;
@@ -103,17 +95,15 @@ traceable_at bytes lanes c s i v tracing linked column item = record {
   linked = linked;
 }
 
-module _ (bytes : List ℕ) (lanes : Lanes) (c s a : ℕ) (v : Room) (tracing : Tracing bytes lanes s v) (column : c < lanes.columns) (fits : ActionFits bytes a) where
-  pub reduction_ready : Linked bytes lanes.states v → a % 2 ≡ 1 → Traceable bytes lanes c s (a / 2) v
-  reduction_ready linked e = traceable_at bytes lanes c s (a / 2) v tracing linked column (fits.reduces e)
+module _ (bytes : List ℕ) (lanes : Lanes) (c s : ℕ) (a : Action) (v : Room) (tracing : Tracing bytes lanes s v) (column : c < lanes.columns) (fits : ActionFits bytes (number_of a)) where
+  pub reduction_ready : (i : ℕ) → a ≡ Reduce i → Linked bytes lanes.states v → Traceable bytes lanes c s i v
+  reduction_ready i e linked = traceable_at bytes lanes c s i v tracing linked column (reduced_item bytes i (rw e at fits))
 
-  pub reduction_acted : (q : Room) → a % 2 ≡ 1 → ActionTraced bytes lanes c s (reduce (a / 2)) v q → ActionTraced bytes lanes c s (action_of a) v q
-  unfolding action_of
-  reduction_acted q e acted = rw (eq-eqb (a % 2) 1 e) acted
+  pub reduction_acted : (i : ℕ) (q : Room) → a ≡ Reduce i → ActionTraced bytes lanes c s (reduce i) v q → ActionTraced bytes lanes c s (action_of (number_of a)) v q
+  reduction_acted i q e acted = rw (e, reduce_number i) acted
 
-  pub shift_low : (a % 2 ≡ 1 → ⊥) → IsToken (a / 2)
-  shift_low ne = fits.shifts ne
+  pub shift_low : (t : ℕ) → a ≡ Shift t → IsToken t
+  shift_low t e = shifted_token bytes t (rw e at fits)
 
-  pub shift_by_number : (q : Room) → (a % 2 ≡ 1 → ⊥) → ActionTraced bytes lanes c s (shift (a / 2)) v q → ActionTraced bytes lanes c s (action_of a) v q
-  unfolding action_of
-  shift_by_number q ne acted = rw (ne_eqb (a % 2) 1 ne) acted
+  pub shift_by_number : (t : ℕ) (q : Room) → a ≡ Shift t → ActionTraced bytes lanes c s (shift t) v q → ActionTraced bytes lanes c s (action_of (number_of a)) v q
+  shift_by_number t q e acted = rw (e, shift_number t) acted

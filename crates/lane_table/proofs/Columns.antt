@@ -11,7 +11,7 @@ use borrow.Author.Tests.{eq-eqb, ne_eqb}
 use Rattle.base.specs.Each.{each_from}
 use Rattle.base.specs.Lists.{some_of, each_of, fold_over}
 use Rattle.base.proofs.Each.{each_same}
-use Rattle.base.proofs.EachLeft.{each_length, each_none, each_more, each_some_turn, each_some_found}
+use Rattle.base.proofs.EachLeft.{each_length, each_none, each_more}
 use Rattle.rules.specs.Tokens.{TokenSet, has}
 use Rattle.rules.specs.Lanes.{Row, join_columns, pairwise_disjoint, no_columns, all_columns, rows_disjoint, row_of, is_successor}
 use Rattle.room.specs.Areas.{Room}
@@ -27,30 +27,21 @@ use Rattle.lane.proofs.Changed.{row_at}
 abbrev pub is_disjoint : Row → Bool
 is_disjoint row = pairwise_disjoint row.columns
 
-pub disjoint_start : (r : Room) (width count : ℕ) → each_of is_disjoint (each_from (row_in r width) 0 (count - 0)) ≡ rows_disjoint (table_in r count width)
+pub disjoint_whole : (r : Room) (width count : ℕ) → each_of is_disjoint (each_from (row_in r width) 0 (count - 0)) ≡ rows_disjoint (table_in r count width)
 unfolding rows_disjoint table_in
-disjoint_start r width count = rw sub-zero
+disjoint_whole r width count = rw sub-zero
 
-pub row_disjoint : (r : Room) (width s at : ℕ) (b : Bool) → at ≡ cell_slot s 0 → b ≡ pairwise_disjoint (columns_at r at width) → b ≡ is_disjoint (row_in r width s)
+pub row_disjoint_lem : (r : Room) (width s at : ℕ) (b : Bool) → at ≡ cell_slot s 0 → b ≡ pairwise_disjoint (columns_at r at width) → b ≡ is_disjoint (row_in r width s)
 unfolding row_in
-row_disjoint r width s at b e is = let z : at ≡ first_slot_of s = omega arith in is ∙ ap (λ (slot : ℕ). pairwise_disjoint (columns_at r slot width)) z
+row_disjoint_lem r width s at b e is = let z : at ≡ first_slot_of s = omega arith in is ∙ ap (λ (slot : ℕ). pairwise_disjoint (columns_at r slot width)) z
 
 -- ---- successors
 abbrev pub links : ℕ → Row → Bool
 links s row = has row.successors s
 
-pub successor_start : (r : Room) (width count s : ℕ) → some_of (links s) (each_from (row_in r width) 0 (count - 0)) ≡ is_successor (table_in r count width) s
+pub successor_whole : (r : Room) (width count s : ℕ) → some_of (links s) (each_from (row_in r width) 0 (count - 0)) ≡ is_successor (table_in r count width) s
 unfolding is_successor table_in
-successor_start r width count s = rw sub-zero
-
-module _ (r : Room) (width count s p : ℕ) (v b : Bool) (here : p < count) (left : some_of (links s) (each_from (row_in r width) p (count - p)) ≡ v) (is : b ≡ has (successors_in r p) s) where
-  pub successor_turn : b ≡ false → some_of (links s) (each_from (row_in r width) (p + 1) (count - (p + 1))) ≡ v
-  unfolding row_in
-  successor_turn z = each_some_turn (links s) (row_in r width) count p v b here left is z
-
-  pub successor_found : b ≡ true → true ≡ v
-  unfolding row_in
-  successor_found z = each_some_found (links s) (row_in r width) count p v b here left is z
+successor_whole r width count s = rw sub-zero
 
 -- ---- where a lane begins
 module _ (r : Room) (width count s x : ℕ) (low : s < count) (read : x ≡ get_or r.entered s 0) where
@@ -58,9 +49,9 @@ module _ (r : Room) (width count s x : ℕ) (low : s < count) (read : x ≡ get_
   unfolding row_in
   entered_as b e = ap (λ (row : Row). row.entered) (row_at r count width s low) ∙ ap (λ (y : ℕ). not (eqb y 0)) (sym read) ∙ ap not e
 
-  pub none_entered : x ≡ 0 → false ≡ is_beachhead (table_in r count width) s
+  pub none_entered : x ≡ 0 → not (eqb x 0) ≡ is_beachhead (table_in r count width) s
   unfolding is_beachhead
-  none_entered e = rw (entered_as true (eq-eqb x 0 e))
+  none_entered e = rw (entered_as true (eq-eqb x 0 e), eq-eqb x 0 e)
 
   pub some_entered : (x ≡ 0 → ⊥) → (b : Bool) → b ≡ is_successor (table_in r count width) s → not b ≡ is_beachhead (table_in r count width) s
   unfolding is_beachhead

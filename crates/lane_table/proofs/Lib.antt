@@ -3,3 +3,4 @@ pub mod Builds
 pub mod Built
 pub mod Clears
 pub mod Columns
+pub mod Numbers

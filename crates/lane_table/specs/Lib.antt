@@ -1,3 +1,4 @@
 pub mod Actions
 pub mod Beachheads
 pub mod Clears
+pub mod Numbers

@@ -1,21 +1,21 @@
 // The trace of one action: lane/mod.rs, start_trace.
 ghost use Rattle.std.specs.Prelude.{◌≤◌, ◌<◌};
 ghost use Rattle.rules.specs.Limits.{max_states, max_columns};
-ghost use Rattle.rules.specs.Lanes.{Action};
+ghost use Rattle.rules.specs.Lanes.{shift, reduce};
 ghost use Rattle.room.specs.Areas.{view};
 ghost use Rattle.room.specs.Bounds.{LongEnough};
 ghost use Rattle.lookahead.specs.Sets.{IsToken};
 ghost use Rattle.state_graph.specs.Links.{Linked};
 ghost use Rattle.lane_table.specs.Actions.{action_of, ActionFits, Tracing, ActionTraced, ActionsTraced};
+ghost use Rattle.lane_table.specs.Numbers.{number_of};
 ghost use Rattle.lane.specs.Traces.{Traceable};
 
+use super::area::{Action, read_action};
 use super::clear::clear_visits;
-use grammar::items::at_start;
 use lane::Lanes;
 use lane::table::add_lookahead;
-use lane::trace::{un_close, un_shift};
+use lane::trace::go_back;
 use lookahead::{clear_set, put_single};
-use room::areas::get_action;
 use room::slots::hand_slot;
 use rules::{ConflictIndex, StateIndex};
 
@@ -29,7 +29,7 @@ fn trace_shift(
     work: &mut [u64],
 )
     requires { LongEnough work.old × (state.0 < lanes.states) × (lanes.states ≤ max_states) × (column.0 < lanes.columns) × (lanes.columns ≤ max_columns) × IsToken t }
-    ensures { ActionTraced g.now lanes column.0 state.0 (Action.shift t) (view work.old) (view work.new) }
+    ensures { ActionTraced g.now lanes column.0 state.0 (shift t) (view work.old) (view work.new) }
 {
     let hand = hand_slot();
     put_single(work, hand, t);
@@ -46,38 +46,32 @@ fn trace_reduce(
     work: &mut [u64],
 )
     requires { Traceable g.now lanes column.0 state.0 i (view work.old) × LongEnough work.old }
-    ensures { ActionTraced g.now lanes column.0 state.0 (Action.reduce i) (view work.old) (view work.new) }
+    ensures { ActionTraced g.now lanes column.0 state.0 (reduce i) (view work.old) (view work.new) }
 {
     clear_visits(lanes.states, work);
     let hand = hand_slot();
     clear_set(work, hand);
     add_lookahead(work, state, column, hand);
-    if at_start(g, i) {
-        un_close(g, lanes, column, state, i, work);
-        return;
-    }
-    un_shift(g, lanes, column, state, i, work);
+    go_back(g, lanes, column, state, i, work);
 }
 
-// An action by its number, in its column. lane/mod.rs: start_trace
+// An action in its column. lane/mod.rs: start_trace
 fn trace_action(
     g: &[u8],
     lanes: Lanes,
     column: ConflictIndex,
     state: StateIndex,
-    action: u64,
+    action: Action,
     work: &mut [u64],
 )
     requires tracing { Tracing g.now lanes state.0 (view work.old) × Linked g.now lanes.states (view work.old) }
-    requires long_enough { LongEnough work.old × (column.0 < lanes.columns) × ActionFits g.now action }
-    ensures { ActionTraced g.now lanes column.0 state.0 (action_of action) (view work.old) (view work.new) }
+    requires long_enough { LongEnough work.old × (column.0 < lanes.columns) × ActionFits g.now (number_of action) }
+    ensures { ActionTraced g.now lanes column.0 state.0 (action_of (number_of action)) (view work.old) (view work.new) }
 {
-    let subject = (action / 2) as usize;
-    if action % 2 == 1 {
-        trace_reduce(g, lanes, column, state, subject, work);
-        return;
+    match action {
+        Action::Shift(t) => trace_shift(g, lanes, column, state, t, work),
+        Action::Reduce(i) => trace_reduce(g, lanes, column, state, i, work),
     }
-    trace_shift(g, lanes, column, state, subject, work);
 }
 
 // The actions of the area, each in its column. construct/mod.rs: build_lane_table
@@ -85,9 +79,9 @@ pub fn trace_actions(g: &[u8], lanes: Lanes, state: StateIndex, work: &mut [u64]
     requires { Tracing g.now lanes state.0 (view work.old) × Linked g.now lanes.states (view work.old) × LongEnough work.old }
     ensures { ActionsTraced g.now lanes state.0 (view work.old) (view work.new) }
 {
-    let columns = lanes.columns;
-    for c in 0..columns {
-        let action = get_action(work, ConflictIndex(c));
-        trace_action(g, lanes, ConflictIndex(c), state, action, work);
+    for c in 0..lanes.columns {
+        let column = ConflictIndex(c);
+        let action = read_action(work, column);
+        trace_action(g, lanes, column, state, action, work);
     }
 }

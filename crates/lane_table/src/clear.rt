@@ -6,9 +6,8 @@ ghost use Rattle.room.specs.Bounds.{LongEnough, IsState};
 ghost use Rattle.lane_table.specs.Clears.{VisitsCleared, RowCleared, RowsCleared};
 
 use context_set::clear_columns;
-use marks::successors::clear_successors;
-use marks::visited::clear_visited;
-use room::areas::put_entered;
+use marks::{Successors, Visited, clear};
+use room::areas::{Entered, put};
 use room::slots::row_slot;
 use rules::{ConflictIndex, StateIndex};
 
@@ -18,7 +17,7 @@ pub fn clear_visits(count: usize, work: &mut [u64])
     ensures { VisitsCleared count (view work.old) (view work.new) }
 {
     for s in 0..count {
-        clear_visited(work, StateIndex(s));
+        clear::<Visited>(work, StateIndex(s));
     }
 }
 
@@ -27,8 +26,8 @@ fn clear_row(state: StateIndex, width: usize, work: &mut [u64])
     requires { LongEnough work.old × IsState state × (width ≤ max_columns) }
     ensures { RowCleared width state.0 (view work.old) (view work.new) }
 {
-    put_entered(work, state, 0);
-    clear_successors(work, state);
+    put::<Entered>(work, state, 0);
+    clear::<Successors>(work, state);
     let at = row_slot(state, ConflictIndex(0));
     clear_columns(work, width, at);
 }

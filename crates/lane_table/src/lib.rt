@@ -2,6 +2,7 @@
 #![tactic(auto)]
 
 pub mod action;
+pub mod area;
 pub mod build;
 pub mod clear;
 pub mod rows;

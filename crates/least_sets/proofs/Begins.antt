@@ -1,7 +1,6 @@
 -- The least sets at the beginning, and that the rounds from there are those of the states.
 use Prim.Native.Nat.{ℕ, ◌+◌, ◌*◌, ◌-◌, ◌<◌, ◌≤◌}
 use mathlib.Core.Path.{◌≡◌, sym, ap, ◌∙◌}
-use mathlib.Core.Bool.{true}
 use mathlib.Core.List.{List, map}
 use native.Mathlib.Omega.{arith}
 use lib.ListN.{length, get_or, replicate}
@@ -24,6 +23,7 @@ use Rattle.context_set.specs.Columns.{Columned}
 use Rattle.states.specs.StatesIn.{entry_in, first_of, state_in, states_in, Placed}
 use Rattle.states.proofs.States.{states_length, first_same}
 use Rattle.states.proofs.Places.{firsts_ascend, end_within, item_count_lem}
+use Rattle.least_steps.specs.declared.give.Receivers.TheVariants.{Item}
 use Rattle.least_steps.specs.Least.{least_slot, least_entry, least_state, least_in, OnlyLeast, LeastCleared}
 use Rattle.least_steps.specs.Giving.{is_given}
 use Rattle.least_steps.proofs.Entries.{map_each}
@@ -80,7 +80,7 @@ module _ (bytes : List ℕ) (count : ℕ) (v p : Room) (ready : Ready bytes coun
 
     -- the start item of state 0 is given it
     pub begun : (l : List State) → length v.sets ≡ slot_count → n ≡ terminal_count (records bytes)
-        → l ≡ give_at 0 (is_given (records bytes) true 0) (set_at q hand_slot) (least_in q count) → l ≡ least_begun (records bytes) (states_in v count)
+        → l ≡ give_at 0 (is_given (records bytes) (Item 0)) (set_at q hand_slot) (least_in q count) → l ≡ least_begun (records bytes) (states_in v count)
     unfolding least_begun is_given
     begun l size named e =
         let long : hand < length p.sets = omega (arith, cleared.only.words) in

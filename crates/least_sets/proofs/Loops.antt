@@ -1,11 +1,10 @@
 -- The loops over the entries of a state and over the states, where they begin.
 use Prim.Native.Nat.{ℕ, ◌+◌, ◌-◌, ◌<◌}
 use mathlib.Core.Path.{◌≡◌, sym}
-use mathlib.Core.Bool.{true, false, not}
+use mathlib.Core.Bool.{false, not, ◌||◌}
 use mathlib.Core.List.{[]}
 use native.Mathlib.Nat.{sub-zero}
 use lib.ListN.{length, get_or}
-use Rattle.base.specs.Pick.{pick}
 use Rattle.base.specs.Loops.{fold_from, any_from}
 use Rattle.base.proofs.EachLeft.{each_length}
 use Rattle.rules.specs.Records.{Grammar}
@@ -28,11 +27,11 @@ module _ (g : Grammar) (sets : Sets) (r : Room) (count : ℕ) where
     pub state_begins : fold_from (settle_entry g sets s) (end - first - 0) 0 (least_in r count) ≡ settle_state g sets s (least_in r count)
     state_begins = rw sub-zero (state_fold g sets s (end - first) (least_in r count) size_is)
 
-    pub state_lacks : pick false true (any_from (λ k. not (settled_at g sets s k (least_in r count))) (end - first - 0) 0) ≡ not (state_settled g sets s (least_in r count))
+    pub state_lacks : (false || any_from (λ k. not (settled_at g sets s k (least_in r count))) (end - first - 0) 0) ≡ not (state_settled g sets s (least_in r count))
     state_lacks = rw sub-zero (state_lacking g sets s (end - first) (least_in r count) size_is)
 
   pub round_begins : fold_from (settle_state g sets) (count - 0) 0 (least_in r count) ≡ least_round g sets count (least_in r count)
   round_begins = rw sub-zero (round_fold g sets count (least_in r count))
 
-  pub round_lacks : pick false true (any_from (λ s. not (state_settled g sets s (least_in r count))) (count - 0) 0) ≡ not (least_settled g sets count (least_in r count))
+  pub round_lacks : (false || any_from (λ s. not (state_settled g sets s (least_in r count))) (count - 0) 0) ≡ not (least_settled g sets count (least_in r count))
   round_lacks = rw sub-zero (round_lacking g sets count (least_in r count))

@@ -48,15 +48,15 @@ module _ {ℓ} {B : Type ℓ} (step : ℕ → B → B) (done : ℕ → B → Boo
       by_first true f e more = rw (rests k b f) (more e)
       by_first false f e more = absurd (false≢true e)
 
-  pub lacking_turn : (n i : ℕ) (b later : B) (lacked new after t : Bool) → i < n → pick lacked true (any_from (λ k. not (done k b)) (n - i) i) ≡ t
-      → later ≡ step i b → new ≡ not (done i b) → after ≡ pick lacked true new → pick after true (any_from (λ k. not (done k later)) (n - (i + 1)) (i + 1)) ≡ t
-  lacking_turn n i b later true new after t h e moved says p = rw p e
-  lacking_turn n i b later false true after t h e moved says p = rw p (sym (any_found (λ k. not (done k b)) n i t true h e says refl))
-  lacking_turn n i b later false false after t h e moved says p =
+  pub lacking_turn : (n i : ℕ) (b later : B) (lacked new t : Bool) → i < n → (lacked || any_from (λ k. not (done k b)) (n - i) i) ≡ t
+      → later ≡ step i b → new ≡ not (done i b) → ((lacked || new) || any_from (λ k. not (done k later)) (n - (i + 1)) (i + 1)) ≡ t
+  lacking_turn n i b later true new t h e moved says = e
+  lacking_turn n i b later false true t h e moved says = sym (any_found (λ k. not (done k b)) n i t true h e says refl)
+  lacking_turn n i b later false false t h e moved says =
       let same : later ≡ b = moved ∙ rests i b (not-false (done i b) (sym says)) in
-      rw (p, same) (any_turn (λ k. not (done k b)) n i t false h e says refl)
+      rw same (any_turn (λ k. not (done k b)) n i t false h e says refl)
 
-pub lacking_end : (test : ℕ → Bool) (n i : ℕ) (lacked t : Bool) → n ≤ i → pick lacked true (any_from test (n - i) i) ≡ t → lacked ≡ t
+pub lacking_end : (test : ℕ → Bool) (n i : ℕ) (lacked t : Bool) → n ≤ i → (lacked || any_from test (n - i) i) ≡ t → lacked ≡ t
 lacking_end test n i true t h e = e
 lacking_end test n i false t h e = sym (any_end test n i t h e)
 
@@ -134,12 +134,12 @@ module _ (g : Grammar) (sets : Sets) where
   unfolding up_to
   round_lacking count least = any_numbers (λ s. state_settled g sets s least) count 0 ∙ ap not (by_states count least)
 
-  pub entry_turn : (s n i : ℕ) (b later : List State) (lacked new after t : Bool) → i < n → pick lacked true (any_from (λ k. not (settled_at g sets s k b)) (n - i) i) ≡ t
-      → later ≡ settle_entry g sets s i b → new ≡ not (settled_at g sets s i b) → after ≡ pick lacked true new → pick after true (any_from (λ k. not (settled_at g sets s k later)) (n - (i + 1)) (i + 1)) ≡ t
+  pub entry_turn : (s n i : ℕ) (b later : List State) (lacked new t : Bool) → i < n → (lacked || any_from (λ k. not (settled_at g sets s k b)) (n - i) i) ≡ t
+      → later ≡ settle_entry g sets s i b → new ≡ not (settled_at g sets s i b) → ((lacked || new) || any_from (λ k. not (settled_at g sets s k later)) (n - (i + 1)) (i + 1)) ≡ t
   entry_turn s = lacking_turn (settle_entry g sets s) (settled_at g sets s) (entry_rests s)
 
-  pub state_turn : (n i : ℕ) (b later : List State) (lacked new after t : Bool) → i < n → pick lacked true (any_from (λ s. not (state_settled g sets s b)) (n - i) i) ≡ t
-      → later ≡ settle_state g sets i b → new ≡ not (state_settled g sets i b) → after ≡ pick lacked true new → pick after true (any_from (λ s. not (state_settled g sets s later)) (n - (i + 1)) (i + 1)) ≡ t
+  pub state_turn : (n i : ℕ) (b later : List State) (lacked new t : Bool) → i < n → (lacked || any_from (λ s. not (state_settled g sets s b)) (n - i) i) ≡ t
+      → later ≡ settle_state g sets i b → new ≡ not (state_settled g sets i b) → ((lacked || new) || any_from (λ s. not (state_settled g sets s later)) (n - (i + 1)) (i + 1)) ≡ t
   state_turn = lacking_turn (settle_state g sets) (state_settled g sets) state_rests
 
   -- ---- both steps of an entry
@@ -148,7 +148,7 @@ module _ (g : Grammar) (sets : Sets) where
   settle_both s k least moved closed p q = q ∙ ap (close_entry g sets s k) p
 
   pub settle_says : (s k : ℕ) (least moved : List State) (a b r : Bool) → moved ≡ move_entry g sets s k least → a ≡ not (entry_moved g sets least (entry_at least s k))
-      → b ≡ not (entry_closed g sets moved s (entry_at moved s k)) → r ≡ pick a true b → r ≡ not (settled_at g sets s k least)
+      → b ≡ not (entry_closed g sets moved s (entry_at moved s k)) → r ≡ (a || b) → r ≡ not (settled_at g sets s k least)
   unfolding settled_at entry_settled
   settle_says s k least moved a b r p f h e = by_moved (entry_moved g sets least (entry_at least s k)) refl
     where

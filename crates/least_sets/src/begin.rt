@@ -12,7 +12,7 @@ ghost use Rattle.least_sets.specs.Rounds.{begun_least, found_least};
 
 use super::rounds::rounds;
 use context_set::clear_columns;
-use least_steps::give::{give, least_slot};
+use least_steps::give::{Receivers, give, least_slot};
 use lookahead::put_eof;
 use room::slots::hand_slot;
 use rules::StateIndex;
@@ -37,7 +37,7 @@ fn begin_least(g: &[u8], n: usize, count: usize, work: &mut [u64])
     clear_least(count, work);
     let hand = hand_slot();
     put_eof(work, hand, n);
-    give(g, true, 0, 0, count, work);
+    give(g, Receivers::Item(0), StateIndex(0), count, work);
 }
 
 // The least sets of all entries of the states, each in its slot.

@@ -12,9 +12,11 @@ use Rattle.base.specs.Pick.{pick}
 use Rattle.base.specs.Lists.{each_of}
 use Rattle.base.proofs.Each.{each_same}
 use Rattle.base.proofs.EachLeft.{each_more, each_none}
+use Rattle.rules.specs.Records.{records}
 use Rattle.rules.specs.Tokens.{TokenSet, join, within}
 use Rattle.rules.specs.States.{Entry}
 use Rattle.rules.specs.FinalCheck.{with_set, have_set, have_at, give_set, give_at}
+use Rattle.grammar.specs.Asked.{InRange}
 use Rattle.room.specs.Areas.{Room, view, with_sets}
 use Rattle.room.specs.Bounds.{slot_count, LongEnough, IsEntry}
 use Rattle.room.specs.Slots.{hand_slot}
@@ -23,7 +25,7 @@ use Rattle.lookahead.proofs.Slots.{put_elsewhere, length_stored_set}
 use Rattle.room.proofs.Lengths.{view_lengths}
 use Rattle.states.specs.StatesIn.{entry_in, first_of, PlacedRun, Placed}
 use Rattle.states.proofs.States.{first_same}
-use Rattle.states.proofs.Places.{firsts_ascend, run_placed}
+use Rattle.states.proofs.Places.{firsts_ascend, item_fits, run_placed}
 use Rattle.least_steps.specs.Least.{least_slot, least_entry, least_run, least_state, least_in, OnlyLeast}
 use Rattle.least_steps.specs.Giving.{give_entry, Given}
 use Rattle.least_steps.proofs.Entries.{map_each, least_item, least_set, least_run_lem, least_length, least_at, least_past, least_same, least_put, least_state_same, least_set_one, same_items}
@@ -32,8 +34,16 @@ pub given_none : (test : ℕ → Bool) (tokens : TokenSet) (v : Room) (first : �
 given_none test tokens v first = record { others = refl; words = refl; entries = λ k h g. absurd (omega arith); slots = λ slot apart. refl }
 
 -- the places of the run stay
-pub given_placed : (record_count : ℕ) (test : ℕ → Bool) (tokens : TokenSet) (v w : Room) (first k end : ℕ) → Given test tokens v w first k → PlacedRun record_count v first end → PlacedRun record_count w first end
+given_placed : (record_count : ℕ) (test : ℕ → Bool) (tokens : TokenSet) (v w : Room) (first k end : ℕ) → Given test tokens v w first k → PlacedRun record_count v first end → PlacedRun record_count w first end
 given_placed record_count test tokens v w first k end given run = run_placed record_count v w first end (λ j h g. same_items v w j (ap (λ (r : Room). r.entries) given.others)) run
+
+-- so the next entry can be given tokens too
+pub next_placed : (record_count : ℕ) (v : Room) (first k end : ℕ) → PlacedRun record_count v first end → k < end → IsEntry k
+next_placed record_count v first k end run h = omega (arith, run.bounded)
+
+pub next_within : (bytes : List ℕ) (test : ℕ → Bool) (tokens : TokenSet) (v w : Room) (first k end : ℕ) → Given test tokens v w first k → PlacedRun (length (records bytes)) v first end → first ≤ k → k < end
+    → InRange (entry_in w k).item bytes
+next_within bytes test tokens v w first k end given run from h = item_fits bytes w first end k _ (given_placed (length (records bytes)) test tokens v w first k end given run) from h refl
 
 -- ---- one entry more, at place k
 module _ (test : ℕ → Bool) (v w : Room) (first k : ℕ) (given : Given test (set_at v hand_slot) v w first k) where
@@ -101,24 +111,24 @@ module _ (record_count : ℕ) (test : ℕ → Bool) (work : List ℕ) (w : Room)
   pub given_more : (p : Room) → LongEnough work → first ≤ k → p ≡ pick (test (entry_in w k).item) (join_set (least_slot k) hand_slot w) w → Given test (set_at (view work) hand_slot) (view work) p first (k + 1)
   given_more p fits from e = given_next test (view work) w first k given p (view_lengths work fits).sets_length (omega (arith, run.bounded)) from e
 
-  pub lacked_more : (lacked new after t : Bool) → pick lacked true (not (have_set test (set_at (view work) hand_slot) (least_run (view work) k end))) ≡ t
-      → new ≡ pick (test (entry_in w k).item) (lacks_some (least_slot k) hand_slot w) false → after ≡ pick lacked true new
-      → pick after true (not (have_set test (set_at (view work) hand_slot) (least_run (view work) (k + 1) end))) ≡ t
+  pub lacked_more : (lacked new t : Bool) → (lacked || not (have_set test (set_at (view work) hand_slot) (least_run (view work) k end))) ≡ t
+      → new ≡ pick (test (entry_in w k).item) (lacks_some (least_slot k) hand_slot w) false
+      → ((lacked || new) || not (have_set test (set_at (view work) hand_slot) (least_run (view work) (k + 1) end))) ≡ t
   unfolding have_set each_of
-  lacked_more true new after t e says p = rw p e
-  lacked_more false new after t e says p =
+  lacked_more true new t e says = e
+  lacked_more false new t e says =
       by_here (not (test (least_entry (view work) k).item) || within (set_at (view work) hand_slot) (least_entry (view work) k).set)
       (lacks_here test (view work) w first k given (omega (arith, run.bounded)) new says) (rw (each_more (least_entry (view work)) end k h) at e)
     where
       later : Bool
       later = have_set test (set_at (view work) hand_slot) (least_run (view work) (k + 1) end)
 
-      by_here : (b : Bool) → new ≡ not b → not (pick b later false) ≡ t → pick after true (not later) ≡ t
-      by_here true z e = rw (p, z) e
-      by_here false z e = rw (p, z) e
+      by_here : (b : Bool) → new ≡ not b → not (pick b later false) ≡ t → (new || not later) ≡ t
+      by_here true z e = rw z e
+      by_here false z e = rw z e
 
 pub lacked_end : (test : ℕ → Bool) (tokens : TokenSet) (v : Room) (k end : ℕ) (lacked t : Bool) → end ≤ k
-    → pick lacked true (not (have_set test tokens (least_run v k end))) ≡ t → lacked ≡ t
+    → (lacked || not (have_set test tokens (least_run v k end))) ≡ t → lacked ≡ t
 unfolding have_set each_of
 lacked_end test tokens v k end true t h e = e
 lacked_end test tokens v k end false t h e = rw (each_none (least_entry v) end k h) at e

@@ -24,6 +24,7 @@ use Rattle.rules.proofs.Laws.{length_records}
 use Rattle.grammar.specs.Asked.{InRange}
 use Rattle.states.specs.StatesIn.{entry_in, Placed}
 use Rattle.first.specs.Firsts.{firsts_in}
+use Rattle.least_steps.specs.declared.give.Receivers.TheVariants.{Item, OfNonterminal}
 use Rattle.least_steps.specs.Least.{least_slot, least_entry, least_in}
 use Rattle.least_steps.specs.Giving.{is_given}
 use Rattle.least_steps.specs.Steps.{closing_put}
@@ -42,10 +43,10 @@ module _ (g : Grammar) (r : Room) (at-k i : ℕ) (is : i ≡ (entry_in r at-k).i
   unfolding moves is_empty_set
   moves_some slot b c own empty z last = rw (item_is, ← last, least_set r at-k, ← own, ← empty, z)
 
-  pub moves_open : (b : Bool) → b ≡ moves g (least_entry r at-k) → not b ≡ false → at_end g i ≡ false
+  pub moves_open : (b : Bool) → b ≡ moves g (least_entry r at-k) → b ≡ true → at_end g i ≡ false
   unfolding moves
   moves_open b says z =
-      let e : moves g (least_entry r at-k) ≡ true = sym says ∙ not-false b z in
+      let e : moves g (least_entry r at-k) ≡ true = sym says ∙ z in
       not-true (at_end g i) (rw item_is at (both_true (not (is_empty_set (least_entry r at-k).set)) (not (at_end g (least_entry r at-k).item)) e).1)
 
   closes_open : (b : Bool) → b ≡ closes g (least_entry r at-k).item (least_entry r at-k).set → not b ≡ false → at_end g i ≡ false
@@ -55,10 +56,10 @@ module _ (g : Grammar) (r : Room) (at-k i : ℕ) (is : i ≡ (entry_in r at-k).i
       let later = (both_true (not (is_empty_set (least_entry r at-k).set)) _ e).1 in
       not-true (at_end g i) (rw item_is at (both_true (not (at_end g (least_entry r at-k).item)) _ later).0)
 
-  pub closes_some : (b c : Bool) → b ≡ moves g (least_entry r at-k) → not b ≡ false → c ≡ is_terminal (at g (i + 1)) → not c ≡ closes g (least_entry r at-k).item (least_entry r at-k).set
+  pub closes_some : (b c : Bool) → b ≡ moves g (least_entry r at-k) → b ≡ true → c ≡ is_terminal (at g (i + 1)) → not c ≡ closes g (least_entry r at-k).item (least_entry r at-k).set
   unfolding moves closes
   closes_some b c says z term =
-      let e : moves g (least_entry r at-k) ≡ true = sym says ∙ not-false b z in
+      let e : moves g (least_entry r at-k) ≡ true = sym says ∙ z in
       let (full, behind) = both_true (not (is_empty_set (least_entry r at-k).set)) (not (at_end g (least_entry r at-k).item)) e in
       rw (full, behind, item_is, ← term)
 
@@ -67,9 +68,9 @@ module _ (g : Grammar) (r : Room) (at-k : ℕ) where
   unfolding moves is_empty_set
   moves_none slot b own empty z = rw (least_set r at-k, ← own, ← empty, z)
 
-  pub closes_none : (b : Bool) → b ≡ moves g (least_entry r at-k) → not b ≡ true → false ≡ closes g (least_entry r at-k).item (least_entry r at-k).set
+  pub closes_none : (b : Bool) → b ≡ moves g (least_entry r at-k) → b ≡ false → false ≡ closes g (least_entry r at-k).item (least_entry r at-k).set
   unfolding moves closes
-  closes_none b says z = by_empty (is_empty_set (least_entry r at-k).set) (at_end g (least_entry r at-k).item) (is_terminal (at g ((least_entry r at-k).item + 1))) (sym says ∙ not-true b z)
+  closes_none b says z = by_empty (is_empty_set (least_entry r at-k).set) (at_end g (least_entry r at-k).item) (is_terminal (at g ((least_entry r at-k).item + 1))) (sym says ∙ z)
     where
       by_empty : (x y w : Bool) → (not x && not y) ≡ false → false ≡ (not x && (not y && not w))
       by_empty true y w e = refl
@@ -91,7 +92,7 @@ module _ (bytes : List ℕ) (n at-k i hand own : ℕ) (v : Room) (is : i ≡ (en
 pub own_put : (at-k hand own : ℕ) (v q : Room) → hand ≡ hand_slot → own ≡ least_slot at-k → q ≡ copy_set hand own v → q ≡ copy_set hand_slot (least_slot at-k) v
 own_put at-k hand own v q h o e = rw (← h, ← o) e
 
-given_behind : (g : Grammar) (i x : ℕ) → x ≡ (at g (i + 1)).symbol → is_given g false x ≡ is_behind_dot g i
+given_behind : (g : Grammar) (i x : ℕ) → x ≡ (at g (i + 1)).symbol → is_given g (OfNonterminal x) ≡ is_behind_dot g i
 unfolding is_given is_behind_dot
 given_behind g i x e = let left : ℕ → ℕ → Bool = λ a j. is_left_side_of g a j in ap left e
 
@@ -102,12 +103,12 @@ module _ (record_count count at-k : ℕ) (w : List ℕ) (p : Room) (fits : LongE
     in_hand : set_at p hand_slot ≡ (least_entry (view w) at-k).set
     in_hand = let l = (view_lengths w fits).sets_length in put_there (view w) p hand_slot _ put (omega arith) ∙ sym (least_set (view w) at-k)
 
-    pub moved_from_lem : (l : List State) → l ≡ give_at t (is_given g true (i + 1)) (set_at p hand_slot) (least_in p count)
+    pub moved_from_lem : (l : List State) → l ≡ give_at t (is_given g (Item (i + 1))) (set_at p hand_slot) (least_in p count)
         → l ≡ give_at (least_entry (view w) at-k).next (eqb ((least_entry (view w) at-k).item + 1)) (least_entry (view w) at-k).set (least_in (view w) count)
     unfolding is_given
     moved_from_lem l e = rw (least_item (view w) at-k, least_next (view w) at-k, ← is, ← leads, ← in_hand, ← hand_least (view w) p hand_slot _ refl put record_count count placed) e
 
-    pub moved_lacked : (r : Bool) → r ≡ not (have_at (least_in p count) t (is_given g true (i + 1)) (set_at p hand_slot))
+    pub moved_lacked : (r : Bool) → r ≡ not (have_at (least_in p count) t (is_given g (Item (i + 1))) (set_at p hand_slot))
         → r ≡ not (have_at (least_in (view w) count) (least_entry (view w) at-k).next (eqb ((least_entry (view w) at-k).item + 1)) (least_entry (view w) at-k).set)
     unfolding is_given
     moved_lacked r e = rw (least_item (view w) at-k, least_next (view w) at-k, ← is, ← leads, ← in_hand, ← hand_least (view w) p hand_slot _ refl put record_count count placed) e
@@ -120,10 +121,10 @@ module _ (record_count count at-k : ℕ) (w : List ℕ) (p : Room) (fits : LongE
         let l = (view_lengths w fits).sets_length in
         rw (least_item (view w) at-k, least_set (view w) at-k, ← named) (put_there (view w) p hand_slot _ put (omega arith))
 
-    pub closed_from_lem : (l : List State) → l ≡ give_at s (is_given (records bytes) false x) (set_at p hand_slot) (least_in p count)
+    pub closed_from_lem : (l : List State) → l ≡ give_at s (is_given (records bytes) (OfNonterminal x)) (set_at p hand_slot) (least_in p count)
         → l ≡ give_at s (is_behind_dot (records bytes) (least_entry (view w) at-k).item) (closing (records bytes) (firsts_in (records bytes) (view w)) (least_entry (view w) at-k)) (least_in (view w) count)
     closed_from_lem l e = rw (← handed_on_lem, least_item (view w) at-k, ← is, ← given_behind (records bytes) i x behind, ← hand_least (view w) p hand_slot _ refl put record_count count placed) e
 
-    pub closed_lacked : (r : Bool) → r ≡ not (have_at (least_in p count) s (is_given (records bytes) false x) (set_at p hand_slot))
+    pub closed_lacked : (r : Bool) → r ≡ not (have_at (least_in p count) s (is_given (records bytes) (OfNonterminal x)) (set_at p hand_slot))
         → r ≡ not (have_at (least_in (view w) count) s (is_behind_dot (records bytes) (least_entry (view w) at-k).item) (closing (records bytes) (firsts_in (records bytes) (view w)) (least_entry (view w) at-k)))
     closed_lacked r e = rw (← handed_on_lem, least_item (view w) at-k, ← is, ← given_behind (records bytes) i x behind, ← hand_least (view w) p hand_slot _ refl put record_count count placed) e

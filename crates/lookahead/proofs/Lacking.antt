@@ -24,16 +24,6 @@ any_here test (suc n) i k h g e = elim (ℕ_discrete k i) [
     by_test true more = refl
     by_test false more = more
 
--- ---- the tests of one token
-module _ (into from token : ℕ) (r : Room) (b : Bool) (there : b ≡ has_token from token r) where
-  pub not_there : not b ≡ true → false ≡ lacks_token into from r token
-  unfolding lacks_token
-  not_there z = rw (← there, not-true b z)
-
-  pub there_lacked : (c : Bool) → not b ≡ false → c ≡ has_token into token r → not c ≡ lacks_token into from r token
-  unfolding lacks_token
-  there_lacked c z e = rw (← there, not-false b z, ← e)
-
 -- ---- all tokens
 module _ (into from a b : ℕ) (r : Room) (w : Bool) (from_is : a ≡ set_at r from) (into-is : b ≡ set_at r into) (says : w ≡ within a b) where
   pub none_lacking : w ≡ true → lacks_below into from r 0 ≡ lacks_some into from r

@@ -1,4 +1,5 @@
-// Token sets by slot of the work room: lookahead.rs. A caller names slots and tokens, and never sees how a set is kept.
+// Token sets by slot of the work room: lookahead.rs. A caller names slots and tokens, and never sees how a set is kept. Each function is one
+// operation on the words of a slot or two: one for all of them would take the operation as a closure and be longer than they are.
 #![tactic(auto)]
 
 ghost use Rattle.std.specs.Prelude.{◌≡◌, not, ◌≤◌, eqb};
@@ -7,23 +8,25 @@ ghost use Rattle.room.specs.Areas.{view};
 ghost use Rattle.room.specs.Bounds.{LongEnough, IsSlot, FewTerminals};
 ghost use Rattle.lookahead.specs.Sets.{max_tokens, IsToken, set_at, put_set, copy_set, join_set, lacks_some, insert_token, take_token, has_token, lacks_token, lacks_below};
 
-use room::areas::{get_set_word, put_set_word};
+use room::areas::{Sets, get, put};
 use words::{all_word, single_word, word_disjoint, word_has, word_join, word_within, word_without};
 
 // The set in a slot, as a word.
+#[tactic(auto, unfolding(crate::specs::Sets::load_set))]
 fn load(work: &[u64], slot: usize) -> u64
     requires { LongEnough work.now × IsSlot slot }
     ensures { result ≡ set_at (view work.now) slot }
 {
-    get_set_word(work, slot)
+    get::<Sets>(work, slot)
 }
 
 // s becomes the set in a slot.
+#[tactic(auto, unfolding(crate::specs::Sets::store_set))]
 fn store(work: &mut [u64], slot: usize, s: u64)
     requires { LongEnough work.old × IsSlot slot }
     ensures { view work.new ≡ put_set slot s (view work.old) }
 {
-    put_set_word(work, slot, s);
+    put::<Sets>(work, slot, s);
 }
 
 // The empty set. lookahead.rs: TokenSet::new
@@ -44,6 +47,7 @@ pub fn put_single(work: &mut [u64], slot: usize, token: usize)
 }
 
 // Only Eof, with n terminals. lookahead.rs: TokenSet::eof
+#[tactic(auto, unfolding(rules::specs::Tokens::eof))]
 pub fn put_eof(work: &mut [u64], slot: usize, n: usize)
     requires { LongEnough work.old × IsSlot slot × FewTerminals n }
     ensures { view work.new ≡ put_set slot (eof n) (view work.old) }
@@ -154,14 +158,12 @@ pub fn is_within(work: &[u64], x: usize, y: usize) -> bool
 }
 
 // The token is in the slot `from`, and the slot `into` lacks it.
+#[tactic(auto, unfolding(crate::specs::Sets::lacks_token))]
 pub fn lacks(work: &[u64], into: usize, from: usize, token: usize) -> bool
     requires { LongEnough work.now × IsSlot into × IsSlot from × IsToken token }
     ensures { result ≡ lacks_token into from (view work.now) token }
 {
-    if !contains(work, from, token) {
-        return false;
-    }
-    !contains(work, into, token)
+    contains(work, from, token) && !contains(work, into, token)
 }
 
 // How many tokens are to be asked for to find one that the slot `from` has and the slot `into` lacks: none if there is none, else all

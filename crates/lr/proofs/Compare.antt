@@ -9,8 +9,9 @@ use native.Mathlib.Decide.{ℕ_discrete, dec_le}
 use lib.ListN.{length}
 use lib.Dec.{eqb, leb}
 use borrow.Author.Tests.{eq-eqb, ne_eqb, le-leb, lt-leb, not-true, not-false}
+use Rattle.std.specs.Prelude.{Option, Some, None, is_some, unwrap_or}
 use Rattle.base.specs.Pick.{pick}
-use Rattle.base.specs.Loops.{first_from}
+use Rattle.base.specs.Loops.{first_from, place_below}
 use Rattle.base.specs.Lists.{keep}
 use Rattle.base.proofs.EachLeft.{each_none, each_more}
 use Rattle.rules.specs.Records.{Grammar, records}
@@ -19,6 +20,7 @@ use Rattle.rules.specs.States.{Entry, State, kernel_over, same_kernel}
 use Rattle.room.specs.Areas.{Room}
 use Rattle.states.specs.StatesIn.{entry_in, run_in, PlacedRun}
 use Rattle.lr.specs.Kernels.{stands_before, first_before, same_entry}
+use Rattle.lr.proofs.Walks.{below_some, below_or_end}
 
 -- ---- what an entry becomes
 abbrev pub moved : Entry → Entry
@@ -175,3 +177,75 @@ module _ (bytes : List ℕ) (x : Symbol) (v : Room) (j-end k-end j k : ℕ) (ans
               k_hit = at-k.hit;
               left = ap₂ same_kernel (sym at_j.rest) (sym at-k.rest) ∙ rw f at both_at;
             }
+
+turned : (r b : Bool) → b ≡ not r → r ≡ not b
+turned true b e = rw e refl
+turned false b e = rw e refl
+
+-- ---- the two walks by their places, none at an end
+pub record WalksLeft (bytes : List ℕ) (x : Symbol) (v : Room) (j-end k-end : ℕ) (one two : Option ℕ) (answer : Bool) : Type 0 where
+  pub one_to : (j : ℕ) → one ≡ Some j → j < j-end
+  pub two_to : (k : ℕ) → two ≡ Some k → k < k-end
+  pub walk : SameLeft bytes x v j-end k-end (unwrap_or one j-end) (unwrap_or two k-end) answer
+
+walks_at : (bytes : List ℕ) (x : Symbol) (v : Room) (j-end k-end j k : ℕ) (one two : Option ℕ) (answer : Bool) → one ≡ place_below j-end j → two ≡ place_below k-end k
+    → SameLeft bytes x v j-end k-end j k answer → WalksLeft bytes x v j-end k-end one two answer
+walks_at bytes x v j-end k-end j k one two answer eo et walk =
+    let ej : unwrap_or one j-end ≡ j = ap (λ (o : Option ℕ). unwrap_or o j-end) eo ∙ below_or_end j-end j walk.one.ordered in
+    let ek : unwrap_or two k-end ≡ k = ap (λ (o : Option ℕ). unwrap_or o k-end) et ∙ below_or_end k-end k walk.two.ordered in
+    record {
+      one_to = λ a e. let (p, q) = below_some j-end j a (sym eo ∙ e) in omega arith;
+      two_to = λ b e. let (p, q) = below_some k-end k b (sym et ∙ e) in omega arith;
+      walk = rw (ej, ek) walk;
+    }
+
+pub walks_left : (bytes : List ℕ) (x : Symbol) (v : Room) (j-first k-first j-end k-end : ℕ) (one two : Option ℕ) → PlacedRun (length (records bytes)) v j-first j-end → PlacedRun (length (records bytes)) v k-first k-end
+    → one ≡ place_below j-end (first_before (records bytes) x v j-first j-end) → two ≡ place_below k-end (first_before (records bytes) x v k-first k-end)
+    → WalksLeft bytes x v j-end k-end one two (same_kernel (kernel_over (records bytes) x (run_in v j-first j-end)) (kernel_over (records bytes) x (run_in v k-first k-end)))
+walks_left bytes x v j-first k-first j-end k-end one two run-j run-k ej ek =
+    walks_at bytes x v j-end k-end _ _ one two _ ej ek (walks_begin bytes x v j-first k-first j-end k-end _ _ run-j run-k refl refl)
+
+module _ (bytes : List ℕ) (x : Symbol) (v : Room) (j-end k-end : ℕ) (one two : Option ℕ) (answer : Bool) (left : WalksLeft bytes x v j-end k-end one two answer) where
+  pub walks_end : (r : Bool) → one ≡ None → is_some two ≡ not r → r ≡ answer
+  walks_end r e is = turned r (is_some two) is ∙ go two refl ∙ walk_ends bytes x v j-end k-end _ _ answer left.walk (rw e (omega arith))
+    where
+      go : (o : Option ℕ) → two ≡ o → not (is_some two) ≡ leb k-end (unwrap_or two k-end)
+      go None f = rw f (sym (le-leb k-end k-end (omega arith)))
+      go (Some k) f = rw f (sym (lt-leb k-end k (left.two_to k f)))
+
+  module _ (j : ℕ) (ej : one ≡ Some j) where
+    at_one : SameLeft bytes x v j-end k-end j (unwrap_or two k-end) answer
+    at_one = rw ej at left.walk
+
+    pub one_place : j < 2048
+    one_place = omega (arith, at_one.one.bounded, left.one_to j ej)
+
+    pub one_next : PlacedRun (length (records bytes)) v (j + 1) j-end
+    one_next = walk_next bytes x v j-end k-end j _ answer at_one (left.one_to j ej)
+
+    pub one_more : two ≡ None → false ≡ answer
+    one_more e = walk_short bytes x v j-end k-end j _ answer at_one (left.one_to j ej) (rw e (omega arith))
+
+    pub one_falls : (next : Option ℕ) → next ≡ place_below j-end (first_before (records bytes) x v (j + 1) j-end) → j-end - unwrap_or next j-end < j-end - unwrap_or one j-end
+    one_falls next e =
+        let to : first_before (records bytes) x v (j + 1) j-end ≤ j-end = (found (records bytes) x v (j + 1) j-end _ one_next.ordered refl).to in
+        let is : unwrap_or next j-end ≡ first_before (records bytes) x v (j + 1) j-end = ap (λ (o : Option ℕ). unwrap_or o j-end) e ∙ below_or_end j-end _ to in
+        rw (is, ej) (walk_falls bytes x v j-end k-end j _ answer at_one (left.one_to j ej) _ refl)
+
+    module _ (k : ℕ) (ek : two ≡ Some k) where
+      at_two : SameLeft bytes x v j-end k-end j k answer
+      at_two = rw ek at at_one
+
+      pub two_place : k < 2048
+      two_place = omega (arith, at_two.two.bounded, left.two_to k ek)
+
+      pub two_next : PlacedRun (length (records bytes)) v (k + 1) k-end
+      two_next = other_next bytes x v j-end k-end j k answer at_two (left.one_to j ej) (left.two_to k ek)
+
+      module _ (same : Bool) (says : same ≡ same_entry (entry_in v j) (entry_in v k)) where
+        pub entries_part : not same ≡ true → false ≡ answer
+        entries_part = walk_differs bytes x v j-end k-end j k answer at_two (left.one_to j ej) (left.two_to k ek) same says
+
+        pub walks_turn : (next other : Option ℕ) → not same ≡ false → next ≡ place_below j-end (first_before (records bytes) x v (j + 1) j-end) → other ≡ place_below k-end (first_before (records bytes) x v (k + 1) k-end)
+            → WalksLeft bytes x v j-end k-end next other answer
+        walks_turn next other e en eo = walks_at bytes x v j-end k-end _ _ next other answer en eo (walk_turns bytes x v j-end k-end j k answer at_two (left.one_to j ej) (left.two_to k ek) same says _ _ e refl refl)

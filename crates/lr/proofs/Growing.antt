@@ -1,13 +1,15 @@
 -- What a transition makes of the state that is being expanded and of the kernels: nothing, a link to a known state, or a state more.
 use Prim.Native.Nat.{ℕ, zero, suc, ◌+◌, ◌-◌, ◌≤◌, ◌<◌}
 use mathlib.Core.Path.{◌≡◌, refl, sym, ap, ap₂, ◌∙◌}
-use mathlib.Core.Bool.{Bool, true, false}
+use mathlib.Core.Bool.{Bool, true, false, not}
 use mathlib.Core.List.{List, [], ◌∷◌, ◌++◌}
 use native.Mathlib.Omega.{arith}
 use native.Mathlib.Decide.{ℕ_discrete}
 use lib.ListN.{length, get_or}
 use lib.Seq.{get_or-set_same, get_or-set_other}
 use borrow.Author.Tests.{eq-eqb, ne_eqb, lt-ltb, le-ltb}
+use Rattle.std.specs.Prelude.{Option, Some, None, is_some, Ok, Err}
+use Rattle.base.specs.Loops.{place_below}
 use Rattle.base.specs.Each.{each_from}
 use Rattle.base.specs.Lists.{place_of, is_empty}
 use Rattle.base.proofs.Each.{each_same}
@@ -16,7 +18,7 @@ use Rattle.rules.specs.declared.BuildRefusal.TheVariants.{States as TooManyState
 use Rattle.rules.specs.Limits.{limits}
 use Rattle.rules.specs.Records.{Grammar, records}
 use Rattle.rules.specs.Tokens.{TokenSet}
-use Rattle.rules.specs.Grammar.{Symbol, is_before}
+use Rattle.rules.specs.Grammar.{Symbol, nonterminal, terminal, is_before}
 use Rattle.rules.specs.States.{Entry, State, done, refused, Expansion, kernel_over, same_kernel, lead, add_transition}
 use Rattle.room.specs.Areas.{Room, view, with_entries, with_visited, put_visited}
 use Rattle.packed.specs.Packed.{packed, low, middle, high}
@@ -26,11 +28,11 @@ use Rattle.lookahead.specs.Sets.{set_at}
 use Rattle.states.specs.StatesIn.{entry_in, run_in, first_of, state_in, PlacedRun}
 use Rattle.states.proofs.States.{set_of_lem, state_run}
 use Rattle.states.proofs.Places.{run_placed, placed_same}
-use Rattle.lr.specs.declared.Built.TheVariants.{States, Refused}
 use Rattle.lr.specs.Kernels.{symbol_by, first_before, parent_word, parent_of, parent_symbol, kernel_in, kernels_in, Parented, HasKernel, KernelPlace}
 use Rattle.lr.specs.Links.{OnlyLinks, Leads}
 use Rattle.lr.specs.Expansions.{expansion_in, expanded_to, StillParented, Transition}
-use Rattle.lr.proofs.Compare.{moved, kernel_hit, kernel_miss, found, kernel_at_lem, kernel_over_lem}
+use Rattle.lr.proofs.Compare.{moved, kernel_hit, kernel_miss, found, kernel_at_lem, kernel_over_lem, FoundFrom}
+use Rattle.lr.proofs.Walks.{below_some, below_none, some_below, none_below}
 use Rattle.lr.proofs.Parents.{kernel_other}
 
 -- ---- kernels see items and sets alone
@@ -131,7 +133,7 @@ unfolding kernels_in
 kernels_length g start r count = each_length (kernel_in g start r) 0 count
 
 -- ---- the entries of state s were led to state t
-module _ (bytes : List ℕ) (kind x s first end t : ℕ) (w after : List ℕ) (ef : first ≡ first_of (view w) s) (ee : end ≡ first_of (view w) (s + 1)) (leads : Leads bytes kind x first end t w after) where
+module _ (bytes : List ℕ) (x : Symbol) (s first end t : ℕ) (w after : List ℕ) (ef : first ≡ first_of (view w) s) (ee : end ≡ first_of (view w) (s + 1)) (leads : Leads bytes x first end t w after) where
   links_same : SameKernels (view w) (view after)
   links_same = linked_same (view w) (view after) first end leads.only
 
@@ -141,10 +143,10 @@ module _ (bytes : List ℕ) (kind x s first end t : ℕ) (w after : List ℕ) (e
   kernels_linked : (start : TokenSet) (count : ℕ) → kernels_in (records bytes) start (view after) count ≡ kernels_in (records bytes) start (view w) count
   kernels_linked start count = kernels_same (view w) (view after) links_same (records bytes) start count (λ j l. parents_same j)
 
-  led_state : state_in (view after) s ≡ lead (records bytes) (symbol_by kind x) t (state_in (view w) s)
+  led_state : state_in (view after) s ≡ lead (records bytes) x t (state_in (view w) s)
   led_state =
       state_run (view after) s ∙ ap₂ (run_in (view after)) (first_is (view w) (view after) links_same s ∙ sym ef) (first_is (view w) (view after) links_same (s + 1) ∙ sym ee)
-      ∙ leads.run ∙ ap (lead (records bytes) (symbol_by kind x) t) (sym (state_run (view w) s ∙ ap₂ (run_in (view w)) (sym ef) (sym ee)))
+      ∙ leads.run ∙ ap (lead (records bytes) x t) (sym (state_run (view w) s ∙ ap₂ (run_in (view w)) (sym ef) (sym ee)))
 
   links_parented : (count : ℕ) → length after ≡ length w → Parented bytes (s + 1) count w → Parented bytes (s + 1) count after
   links_parented count size parented = record {
@@ -155,27 +157,40 @@ module _ (bytes : List ℕ) (kind x s first end t : ℕ) (w after : List ℕ) (e
     kinds = λ j h l. rw (parents_same j) (parented.kinds j h l);
   }
 
+-- ---- the word of a parent
+module _ (s x word : ℕ) (small : s < 128) (low_x : x < 64) where
+  pub over_nonterminal : word ≡ packed s x 0 → (low word ≡ s) × (symbol_by (high word) (middle word) ≡ nonterminal x) × (high word < 2)
+  unfolding symbol_by
+  over_nonterminal is =
+      let kind : high word ≡ 0 = ap high is ∙ high_packed s x 0 (omega arith) (omega arith) in
+      let number : middle word ≡ x = ap middle is ∙ middle_packed s x 0 (omega arith) (omega arith) in
+      (ap low is ∙ low_packed s x 0 (omega arith) (omega arith), rw (kind, number), omega arith)
+
+  pub over_terminal : word ≡ packed s x 1 → (low word ≡ s) × (symbol_by (high word) (middle word) ≡ terminal x) × (high word < 2)
+  unfolding symbol_by
+  over_terminal is =
+      let kind : high word ≡ 1 = ap high is ∙ high_packed s x 1 (omega arith) (omega arith) in
+      let number : middle word ≡ x = ap middle is ∙ middle_packed s x 1 (omega arith) (omega arith) in
+      (ap low is ∙ low_packed s x 1 (omega arith) (omega arith), rw (kind, number), omega arith)
+
 -- ---- a state more, whose parent is state s
-module _ (bytes : List ℕ) (kind x s count word : ℕ) (w w₁ : List ℕ) (small : s < 128) (low_x : x < 64) (low-kind : kind < 2) (begun : 0 < count) (room : count < 128) (is : word ≡ packed s x kind)
+module _ (bytes : List ℕ) (x : Symbol) (s count word : ℕ) (w w₁ : List ℕ) (small : s < 128) (begun : 0 < count) (room : count < 128) (from : low word ≡ s) (over : symbol_by (high word) (middle word) ≡ x) (low-kind : high word < 2)
     (put : view w₁ ≡ put_visited count word (view w)) (parented : Parented bytes (s + 1) count w) where
-  new_word : parent_word (view w₁) count ≡ packed s x kind
-  new_word = parent_there (view w) (view w₁) count word put (omega (arith, (view_lengths w parented.long).visited_length)) ∙ is
+  new_word : parent_word (view w₁) count ≡ word
+  new_word = parent_there (view w) (view w₁) count word put (omega (arith, (view_lengths w parented.long).visited_length))
 
   new_parent : parent_of (view w₁) count ≡ s
-  new_parent = ap low new_word ∙ low_packed s x kind (omega arith) (omega arith)
+  new_parent = ap low new_word ∙ from
 
-  new_number : middle (parent_word (view w₁) count) ≡ x
-  new_number = ap middle new_word ∙ middle_packed s x kind (omega arith) (omega arith)
+  new_kind : high (parent_word (view w₁) count) < 2
+  new_kind = rw new_word low-kind
 
-  new_kind : high (parent_word (view w₁) count) ≡ kind
-  new_kind = ap high new_word ∙ high_packed s x kind (omega arith) (omega arith)
-
-  new_kernel : (start : TokenSet) → kernel_in (records bytes) start (view w₁) count ≡ kernel_over (records bytes) (symbol_by kind x) (state_in (view w) s)
+  new_kernel : (start : TokenSet) → kernel_in (records bytes) start (view w₁) count ≡ kernel_over (records bytes) x (state_in (view w) s)
   new_kernel start =
       kernel_other (records bytes) [] start (view w₁) count begun
-      ∙ ap₂ (kernel_over (records bytes)) (ap₂ symbol_by new_kind new_number) (ap (state_in (view w₁)) new_parent ∙ state_stays (view w) (view w₁) count word put s)
+      ∙ ap₂ (kernel_over (records bytes)) (ap (λ (v : ℕ). symbol_by (high v) (middle v)) new_word ∙ over) (ap (state_in (view w₁)) new_parent ∙ state_stays (view w) (view w₁) count word put s)
 
-  kernels_more : (start : TokenSet) → kernels_in (records bytes) start (view w₁) (count + 1) ≡ kernels_in (records bytes) start (view w) count ++ (kernel_over (records bytes) (symbol_by kind x) (state_in (view w) s) ∷ [])
+  kernels_more : (start : TokenSet) → kernels_in (records bytes) start (view w₁) (count + 1) ≡ kernels_in (records bytes) start (view w) count ++ (kernel_over (records bytes) x (state_in (view w) s) ∷ [])
   unfolding kernels_in
   kernels_more start =
       let z : 0 + count ≡ count = omega arith in
@@ -193,70 +208,91 @@ module _ (bytes : List ℕ) (kind x s count word : ℕ) (w w₁ : List ℕ) (sma
       | no ne ↦ rw (parent_stays (view w) (view w₁) count word put t (omega arith)) (parented.parents t h (omega arith))
     ];
     kinds = λ t h l. elim (ℕ_discrete t count) [
-      | yes e ↦ rw (e, new_kind) low-kind
+      | yes e ↦ rw e new_kind
       | no ne ↦ rw (parent_stays (view w) (view w₁) count word put t (omega arith)) (parented.kinds t h (omega arith))
     ];
   }
+
+-- ---- the place of a kernel, whatever set state 0 begins with: the number of states if no state has it
+pub record PlaceAt (bytes : List ℕ) (x : Symbol) (s count : ℕ) (w : List ℕ) (t : ℕ) : Type 0 where
+  pub found : (start : TokenSet) → t ≡ place_of (same_kernel (kernel_over (records bytes) x (state_in (view w) s))) (kernels_in (records bytes) start (view w) count)
 
 -- ---- the code's answers
 pub own_placed : (bytes : List ℕ) (s count : ℕ) (w : List ℕ) (first end : ℕ) → first ≡ first_of (view w) s → end ≡ first_of (view w) (s + 1) → Parented bytes (s + 1) count w → PlacedRun (length (records bytes)) (view w) first end
 own_placed bytes s count w first end ef ee parented = rw (ef, ee) (parented.placed.each s (omega arith))
 
-module _ (bytes : List ℕ) (kind x s count : ℕ) (w : List ℕ) (first end : ℕ) (ef : first ≡ first_of (view w) s) (ee : end ≡ first_of (view w) (s + 1)) where
-  own_kernel_lem : kernel_over (records bytes) (symbol_by kind x) (state_in (view w) s) ≡ kernel_over (records bytes) (symbol_by kind x) (run_in (view w) first end)
-  own_kernel_lem = ap (kernel_over (records bytes) (symbol_by kind x)) (state_run (view w) s ∙ ap₂ (run_in (view w)) (sym ef) (sym ee))
+module _ (bytes : List ℕ) (x : Symbol) (s count : ℕ) (w : List ℕ) (first end : ℕ) (ef : first ≡ first_of (view w) s) (ee : end ≡ first_of (view w) (s + 1)) where
+  own_kernel_lem : kernel_over (records bytes) x (state_in (view w) s) ≡ kernel_over (records bytes) x (run_in (view w) first end)
+  own_kernel_lem = ap (kernel_over (records bytes) x) (state_run (view w) s ∙ ap₂ (run_in (view w)) (sym ef) (sym ee))
 
   module _ (parented : Parented bytes (s + 1) count w) where
-    module _ (r : ℕ) (is : r ≡ first_before (records bytes) (symbol_by kind x) (view w) first end) where
-      pub has_kernel : (r ≡ end → ⊥) → HasKernel (records bytes) (symbol_by kind x) (view w) s
-      unfolding is_empty
-      has_kernel ne =
-          let at-r = found (records bytes) (symbol_by kind x) (view w) first end r (own_placed bytes s count w first end ef ee parented).ordered is in
-          let h : r < end = omega (arith, at-r.to) in
-          rw (own_kernel_lem, at-r.rest, kernel_at_lem (records bytes) (symbol_by kind x) (view w) r end h (at-r.hit h))
+    module _ (o : Option ℕ) (b : Bool) (is : o ≡ place_below end (first_before (records bytes) x (view w) first end)) (says : is_some o ≡ not b) where
+      at_first : FoundFrom (records bytes) x (view w) first end (first_before (records bytes) x (view w) first end)
+      at_first = found (records bytes) x (view w) first end _ (own_placed bytes s count w first end ef ee parented).ordered refl
 
-      pub none_added : r ≡ end → Transition bytes kind x s count w w (States count)
+      pub has_kernel : b ≡ false → HasKernel (records bytes) x (view w) s
+      unfolding is_empty
+      has_kernel e =
+          let h : first_before (records bytes) x (view w) first end < end = some_below end _ (ap is_some (sym is) ∙ says ∙ ap not e) in
+          rw (own_kernel_lem, at_first.rest, kernel_at_lem (records bytes) x (view w) _ end h (at_first.hit h))
+
+      pub none_added : b ≡ true → Transition bytes x s count w w (Ok count)
       unfolding is_empty expansion_in expanded_to StillParented
       none_added z =
-          let at-r = found (records bytes) (symbol_by kind x) (view w) first end r (own_placed bytes s count w first end ef ee parented).ordered is in
-          let none : kernel_over (records bytes) (symbol_by kind x) (state_in (view w) s) ≡ [] = own_kernel_lem ∙ at-r.rest ∙ kernel_over_lem (records bytes) (symbol_by kind x) (view w) r end (omega arith) in
+          let over : end ≤ first_before (records bytes) x (view w) first end = none_below end _ (ap is_some (sym is) ∙ says ∙ ap not z) in
+          let none : kernel_over (records bytes) x (state_in (view w) s) ≡ [] = own_kernel_lem ∙ at_first.rest ∙ kernel_over_lem (records bytes) x (view w) _ end over in
           record {
-            outcome = λ start. sym (no_transition (records bytes) (symbol_by kind x) (expansion_in (records bytes) start (view w) s count) (rw none));
+            outcome = λ start. sym (no_transition (records bytes) x (expansion_in (records bytes) start (view w) s count) (rw none));
             only = record { others = refl; before = λ k h. refl; behind = λ k h. refl; items = λ k. refl };
             left = (omega arith, parented);
           }
 
+    -- the place that the search answered, by its number
+    pub known_place : (r : Option ℕ) (t : ℕ) → KernelPlace bytes x s count w r → r ≡ Some t → PlaceAt bytes x s count w t
+    known_place r t place e = record { found = λ start. (below_some count _ t (sym (place.found start) ∙ e)).0 }
+
+    pub known_below : (r : Option ℕ) (t : ℕ) → KernelPlace bytes x s count w r → r ≡ Some t → t < count
+    known_below r t place e = let (p, q) = below_some count _ t (sym (place.found 0) ∙ e) in omega arith
+
+    pub no_place : (r : Option ℕ) → KernelPlace bytes x s count w r → r ≡ None → PlaceAt bytes x s count w count
+    no_place r place e = record {
+      found = λ start.
+          let size = kernels_length (records bytes) start (view w) count in
+          let within = place_within (same_kernel (kernel_over (records bytes) x (state_in (view w) s))) (kernels_in (records bytes) start (view w) count) in
+          omega (arith, below_none count _ (sym (place.found start) ∙ e));
+    }
+
     -- the entries were led to state t, which was known
-    module _ (t : ℕ) (place : KernelPlace bytes kind x s count w t) (some : HasKernel (records bytes) (symbol_by kind x) (view w) s) where
-      pub full_refused : count ≤ t → count ≡ 128 → Transition bytes kind x s count w w (Refused TooManyStates)
+    module _ (t : ℕ) (place : PlaceAt bytes x s count w t) (some : HasKernel (records bytes) x (view w) s) where
+      pub full_refused : count ≤ t → count ≡ 128 → Transition bytes x s count w w (Err TooManyStates)
       unfolding expansion_in expanded_to StillParented
       full_refused h z = record {
         outcome = λ start.
             let size = kernels_length (records bytes) start (view w) count in
-            let within = place_within (same_kernel (kernel_over (records bytes) (symbol_by kind x) (state_in (view w) s))) (kernels_in (records bytes) start (view w) count) in
-            sym (to_none (records bytes) (symbol_by kind x) (expansion_in (records bytes) start (view w) s count) t some (sym (place.found start)) (omega arith) (omega (arith, place.found start)));
+            let within = place_within (same_kernel (kernel_over (records bytes) x (state_in (view w) s))) (kernels_in (records bytes) start (view w) count) in
+            sym (to_none (records bytes) x (expansion_in (records bytes) start (view w) s count) t some (sym (place.found start)) (omega arith) (omega (arith, place.found start)));
         only = record { others = refl; before = λ k l. refl; behind = λ k l. refl; items = λ k. refl };
         left = tt;
       }
 
       module _ (after : List ℕ) where
-        pub known_led : length after ≡ length w → Leads bytes kind x first end t w after → t < count → Transition bytes kind x s count w after (States count)
+        pub known_led : length after ≡ length w → Leads bytes x first end t w after → t < count → Transition bytes x s count w after (Ok count)
         unfolding expansion_in expanded_to StillParented
         known_led size leads h = record {
           outcome = λ start.
-              ap₂ (λ (ks : List State) (es : State). done (record { kernels = ks; entries = es })) (kernels_linked bytes kind x s first end t w after ef ee leads start count) (led_state bytes kind x s first end t w after ef ee leads)
-              ∙ sym (to_known (records bytes) (symbol_by kind x) (expansion_in (records bytes) start (view w) s count) t some (sym (place.found start)) (rw (kernels_length (records bytes) start (view w) count) h));
+              ap₂ (λ (ks : List State) (es : State). done (record { kernels = ks; entries = es })) (kernels_linked bytes x s first end t w after ef ee leads start count) (led_state bytes x s first end t w after ef ee leads)
+              ∙ sym (to_known (records bytes) x (expansion_in (records bytes) start (view w) s count) t some (sym (place.found start)) (rw (kernels_length (records bytes) start (view w) count) h));
           only = record {
             others = ap (with_visited []) leads.only.others;
             before = λ k l. leads.only.before k (omega arith);
             behind = λ k l. leads.only.behind k (omega arith);
             items = leads.only.items;
           };
-          left = (omega arith, links_parented bytes kind x s first end t w after ef ee leads count size parented);
+          left = (omega arith, links_parented bytes x s first end t w after ef ee leads count size parented);
         }
 
-        module _ (w₁ : List ℕ) (word : ℕ) (h : count ≤ t) (ne : count ≡ 128 → ⊥) (small : s < 128) (low_x : x < 64) (low-kind : kind < 2) (begun : 0 < count) (is : word ≡ packed s x kind)
-            (put : view w₁ ≡ put_visited count word (view w)) (size₁ : length w₁ ≡ length w) (size : length after ≡ length w₁) (leads : Leads bytes kind x first end count w₁ after) where
+        module _ (w₁ : List ℕ) (word : ℕ) (h : count ≤ t) (ne : count ≡ 128 → ⊥) (small : s < 128) (begun : 0 < count) (from : low word ≡ s) (over : symbol_by (high word) (middle word) ≡ x) (low-kind : high word < 2)
+            (put : view w₁ ≡ put_visited count word (view w)) (size₁ : length w₁ ≡ length w) (size : length after ≡ length w₁) (leads : Leads bytes x first end count w₁ after) where
           room : count < 128
           room = omega (arith, parented.few)
 
@@ -269,23 +305,23 @@ module _ (bytes : List ℕ) (kind x s count : ℕ) (w : List ℕ) (first end : �
           new_is : (start : TokenSet) → t ≡ count
           new_is start =
               let length-is = kernels_length (records bytes) start (view w) count in
-              let within = place_within (same_kernel (kernel_over (records bytes) (symbol_by kind x) (state_in (view w) s))) (kernels_in (records bytes) start (view w) count) in
+              let within = place_within (same_kernel (kernel_over (records bytes) x (state_in (view w) s))) (kernels_in (records bytes) start (view w) count) in
               omega (arith, place.found start)
 
-          pub new_led : Transition bytes kind x s count w after (States (count + 1))
+          pub new_led : Transition bytes x s count w after (Ok (count + 1))
           unfolding expansion_in expanded_to StillParented
           new_led = record {
             outcome = λ start.
                 let z = new_is start in
                 ap₂ (λ (ks : List State) (es : State). done (record { kernels = ks; entries = es }))
-                (kernels_linked bytes kind x s first end count w₁ after ef₁ ee₁ leads start (count + 1) ∙ kernels_more bytes kind x s count word w w₁ small low_x low-kind begun room is put parented start)
-                (led_state bytes kind x s first end count w₁ after ef₁ ee₁ leads ∙ ap₂ (lead (records bytes) (symbol_by kind x)) (sym z) (state_stays (view w) (view w₁) count word put s))
-                ∙ sym (to_new (records bytes) (symbol_by kind x) (expansion_in (records bytes) start (view w) s count) t some (sym (place.found start)) (omega (arith, kernels_length (records bytes) start (view w) count)) (λ y. ne (omega arith)));
+                (kernels_linked bytes x s first end count w₁ after ef₁ ee₁ leads start (count + 1) ∙ kernels_more bytes x s count word w w₁ small begun room from over low-kind put parented start)
+                (led_state bytes x s first end count w₁ after ef₁ ee₁ leads ∙ ap₂ (lead (records bytes) x) (sym z) (state_stays (view w) (view w₁) count word put s))
+                ∙ sym (to_new (records bytes) x (expansion_in (records bytes) start (view w) s count) t some (sym (place.found start)) (omega (arith, kernels_length (records bytes) start (view w) count)) (λ y. ne (omega arith)));
             only = record {
               others = ap (with_visited []) leads.only.others ∙ ap (λ (r : Room). with_entries [] (with_visited [] r)) put;
               before = λ k l. leads.only.before k (omega arith) ∙ entry_stays (view w) (view w₁) count word put k;
               behind = λ k l. leads.only.behind k (omega arith) ∙ entry_stays (view w) (view w₁) count word put k;
               items = λ k. leads.only.items k ∙ ap (λ (e : Entry). e.item) (entry_stays (view w) (view w₁) count word put k);
             };
-            left = (omega arith, links_parented bytes kind x s first end count w₁ after ef₁ ee₁ leads (count + 1) size (more_parented bytes kind x s count word w w₁ small low_x low-kind begun room is put parented size₁));
+            left = (omega arith, links_parented bytes x s first end count w₁ after ef₁ ee₁ leads (count + 1) size (more_parented bytes x s count word w w₁ small begun room from over low-kind put parented size₁));
           }

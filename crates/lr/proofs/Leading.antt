@@ -19,7 +19,7 @@ use Rattle.room.proofs.Lengths.{view_lengths}
 use Rattle.states.specs.StatesIn.{entry_in, PlacedRun, put_next}
 use Rattle.states.proofs.Changes.{next_there, stored_elsewhere}
 use Rattle.states.proofs.Places.{item_fits}
-use Rattle.lr.specs.Kernels.{symbol_by, stands_before}
+use Rattle.lr.specs.Kernels.{stands_before}
 use Rattle.lr.specs.Links.{Leads}
 
 -- ---- one entry
@@ -87,12 +87,12 @@ unfolding lead each_from
 led_each g x t f i zero = refl
 led_each g x t f i (suc n) = ap (λ (es : State). led g x t (f i) ∷ es) (led_each g x t f (suc i) n)
 
-module _ (bytes : List ℕ) (kind x first end t : ℕ) (w₀ w : List ℕ) (k : ℕ) (walk : LeadLeft bytes (symbol_by kind x) first end t w₀ w k) where
-  pub lead_ends : end ≤ k → Leads bytes kind x first end t w₀ w
+module _ (bytes : List ℕ) (x : Symbol) (first end t : ℕ) (w₀ w : List ℕ) (k : ℕ) (walk : LeadLeft bytes x first end t w₀ w k) where
+  pub lead_ends : end ≤ k → Leads bytes x first end t w₀ w
   lead_ends h = record {
     run =
-        each_same (entry_in (view w)) (λ j. led (records bytes) (symbol_by kind x) t (entry_in (view w₀) j)) first (end - first) (λ j a b. walk.done j a (omega arith))
-        ∙ sym (led_each (records bytes) (symbol_by kind x) t (entry_in (view w₀)) first (end - first));
+        each_same (entry_in (view w)) (λ j. led (records bytes) x t (entry_in (view w₀) j)) first (end - first) (λ j a b. walk.done j a (omega arith))
+        ∙ sym (led_each (records bytes) x t (entry_in (view w₀)) first (end - first));
     only = record { others = walk.others; before = walk.before; behind = λ j l. walk.behind j (omega (arith, walk.to)); items = λ j. by_place j (dec_le k j) };
   }
     where
@@ -104,27 +104,27 @@ module _ (bytes : List ℕ) (kind x first end t : ℕ) (w₀ w : List ℕ) (k : 
           by_first j l (yes m) = ap (λ (e : Entry). e.item) (walk.done j m l)
           by_first j l (no m) = ap (λ (e : Entry). e.item) (walk.before j (omega arith))
 
-module _ (bytes : List ℕ) (kind x first end : ℕ) (t : StateIndex) (w₀ w : List ℕ) (k : ℕ) (run : PlacedRun (length (records bytes)) (view w₀) first end)
-    (walk : LeadLeft bytes (symbol_by kind x) first end t.0 w₀ w k) (h : k < end) where
+module _ (bytes : List ℕ) (x : Symbol) (first end : ℕ) (t : StateIndex) (w₀ w : List ℕ) (k : ℕ) (run : PlacedRun (length (records bytes)) (view w₀) first end)
+    (walk : LeadLeft bytes x first end t.0 w₀ w k) (h : k < end) where
   pub lead_place : k < 2048
   lead_place = omega (arith, run.bounded)
 
   pub lead_item : 8 * (entry_in (view w) k).item + 8 ≤ length bytes
   lead_item = item_fits bytes (view w₀) first end k _ run walk.from h (ap (λ (e : Entry). e.item) (walk.behind k (omega arith)))
 
-  pub lead_turns : (after : List ℕ) → 8192 ≤ length w₀ → IsState t → length after ≡ length w → view after ≡ pick (stands_before (records bytes) (symbol_by kind x) (view w) k) (put_next k t (view w)) (view w)
-      → LeadLeft bytes (symbol_by kind x) first end t.0 w₀ after (k + 1)
+  pub lead_turns : (after : List ℕ) → 8192 ≤ length w₀ → IsState t → length after ≡ length w → view after ≡ pick (stands_before (records bytes) x (view w) k) (put_next k t (view w)) (view w)
+      → LeadLeft bytes x first end t.0 w₀ after (k + 1)
   lead_turns after long small size put =
       let long-here : 8192 ≤ length w = omega (arith, walk.same) in
       record {
         from = omega (arith, walk.from);
         to = omega arith;
         same = size ∙ walk.same;
-        others = led_others (records bytes) (symbol_by kind x) k t w (view after) long-here small lead_place put ∙ walk.others;
+        others = led_others (records bytes) x k t w (view after) long-here small lead_place put ∙ walk.others;
         done = λ j a b. elim (ℕ_discrete j k) [
-          | yes e ↦ rw e (led_here (records bytes) (symbol_by kind x) k t w (view after) long-here small lead_place put ∙ ap (led (records bytes) (symbol_by kind x) t.0) (walk.behind k (omega arith)))
-          | no ne ↦ led_elsewhere (records bytes) (symbol_by kind x) k t w (view after) long-here small lead_place put j ne ∙ walk.done j a (omega arith)
+          | yes e ↦ rw e (led_here (records bytes) x k t w (view after) long-here small lead_place put ∙ ap (led (records bytes) x t.0) (walk.behind k (omega arith)))
+          | no ne ↦ led_elsewhere (records bytes) x k t w (view after) long-here small lead_place put j ne ∙ walk.done j a (omega arith)
         ];
-        before = λ j a. led_elsewhere (records bytes) (symbol_by kind x) k t w (view after) long-here small lead_place put j (λ e. omega (arith, walk.from)) ∙ walk.before j a;
-        behind = λ j a. led_elsewhere (records bytes) (symbol_by kind x) k t w (view after) long-here small lead_place put j (λ e. omega arith) ∙ walk.behind j (omega arith);
+        before = λ j a. led_elsewhere (records bytes) x k t w (view after) long-here small lead_place put j (λ e. omega (arith, walk.from)) ∙ walk.before j a;
+        behind = λ j a. led_elsewhere (records bytes) x k t w (view after) long-here small lead_place put j (λ e. omega arith) ∙ walk.behind j (omega arith);
       }

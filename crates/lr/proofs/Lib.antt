@@ -3,6 +3,7 @@ pub mod Growing
 pub mod Leading
 pub mod Moves
 pub mod Parents
+pub mod Symbols
 pub mod Turning
 pub mod Unique
 pub mod Walks

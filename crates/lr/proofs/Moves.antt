@@ -6,6 +6,7 @@ use mathlib.Core.List.{List, ◌∷◌}
 use native.Mathlib.Omega.{arith}
 use lib.ListN.{length}
 use borrow.Author.Tests.{not-true, not-false}
+use Rattle.std.specs.Prelude.{Some, None}
 use Rattle.base.proofs.EachLeft.{each_none, each_more}
 use Rattle.base.proofs.Tests.{both_true}
 use Rattle.rules.specs.Records.{records}
@@ -18,7 +19,6 @@ use Rattle.states.specs.StatesIn.{entry_in, run_in, PlacedRun, append_entry}
 use Rattle.states.proofs.States.{set_of_lem}
 use Rattle.states.proofs.Places.{item_fits}
 use Rattle.states.proofs.Grow.{appended_elsewhere}
-use Rattle.closures.specs.declared.Appended.TheVariants.{End, Full}
 use Rattle.closures.specs.Runs.{AppendedRun}
 use Rattle.closures.proofs.Appends.{AppendLeft, append_begins, append_ends, append_full, append_turns}
 use Rattle.lr.proofs.Compare.{moved, kernel_none, kernel_hit, kernel_miss}
@@ -45,7 +45,7 @@ module _ (bytes : List ℕ) (x : Symbol) (first last end : ℕ) (w₀ w : List �
   pub move_end_lem : (to ≡ 2048 → ⊥) → to < 2048
   move_end_lem ne = omega (arith, at-k.appended.fits)
 
-  pub move_ends : last ≤ k → AppendedRun end (kernel_over (records bytes) x (run_in (view w₀) first last)) (view w₀) (view w) (End to)
+  pub move_ends : last ≤ k → AppendedRun end (kernel_over (records bytes) x (run_in (view w₀) first last)) (view w₀) (view w) (Some to)
   move_ends h = append_ends end _ (view w₀) to _ (view w) at-k.appended (ap (kernel_over (records bytes) x) (each_none (entry_in (view w₀)) last k h) ∙ kernel_none (records bytes) x)
 
   module _ (run : PlacedRun (length (records bytes)) (view w₀) first last) (behind : last ≤ end) (h : k < last) where
@@ -75,7 +75,7 @@ module _ (bytes : List ℕ) (x : Symbol) (first last end : ℕ) (w₀ w : List �
         hit : kernel_over (records bytes) x (run_in (view w₀) k last) ≡ moved (entry_in (view w₀) k) ∷ kernel_over (records bytes) x (run_in (view w₀) (k + 1) last)
         hit = ap (kernel_over (records bytes) x) (each_more (entry_in (view w₀)) last k h) ∙ kernel_hit (records bytes) x (entry_in (view w₀) k) _ (sym tested ∙ not-false b e)
 
-        pub move_full : to ≡ 2048 → AppendedRun end (kernel_over (records bytes) x (run_in (view w₀) first last)) (view w₀) (view w) Full
+        pub move_full : to ≡ 2048 → AppendedRun end (kernel_over (records bytes) x (run_in (view w₀) first last)) (view w₀) (view w) None
         move_full z = append_full end _ (view w₀) to _ (view w) at-k.appended _ _ hit z
 
         pub move_turns : (after : List ℕ) (slot : ℕ) → (to ≡ 2048 → ⊥) → length after ≡ length w → slot ≡ 128 + k → view after ≡ append_entry to (i + 1) slot (view w) → MoveLeft bytes x first last end w₀ after (to + 1) (k + 1)

@@ -7,15 +7,16 @@ use native.Mathlib.Omega.{arith}
 use lib.ListN.{length}
 use lib.Dec.{eqb}
 use borrow.Author.Tests.{eqb-true, ne_eqb}
+use Rattle.std.specs.Prelude.{Option}
 use Rattle.base.specs.Among.{Among, here}
 use Rattle.base.specs.Each.{each_from}
 use Rattle.base.specs.Pick.{pick}
-use Rattle.base.specs.Loops.{first_from}
+use Rattle.base.specs.Loops.{first_from, place_below}
 use Rattle.base.specs.Lists.{keep, place_of, is_empty}
 use Rattle.base.proofs.Lists.{keep_among}
 use Rattle.base.proofs.Members.{map_among}
 use Rattle.base.proofs.Tests.{both_true}
-use Rattle.base.proofs.Turns.{first_miss, first_turn, first_at, first_over}
+use Rattle.base.proofs.Turns.{first_miss}
 use Rattle.rules.specs.Records.{Grammar, at, records}
 use Rattle.rules.specs.Tokens.{TokenSet}
 use Rattle.rules.specs.Grammar.{Symbol, nonterminal, terminal, at_end, symbol_of, same_symbol, is_before}
@@ -24,7 +25,7 @@ use Rattle.room.specs.Areas.{Room, view}
 use Rattle.packed.specs.Packed.{low, middle, high}
 use Rattle.states.specs.StatesIn.{run_in, first_of, state_in, PlacedRun}
 use Rattle.states.proofs.States.{state_run}
-use Rattle.lr.specs.Kernels.{symbol_by, parent_word, parent_of, parent_symbol, kernel_in, kernels_in, Parented, HasKernel, Comparable, KernelPlace}
+use Rattle.lr.specs.Kernels.{symbol_by, parent_word, parent_of, parent_symbol, state_kernel, own_kernel, kernel_in, kernels_in, Parented, HasKernel, Comparable, KernelPlace}
 use Rattle.lr.proofs.Compare.{moved}
 
 -- ---- one symbol stands behind a dot
@@ -74,39 +75,14 @@ module _ (g : Grammar) (x y : Symbol) (es fs : State) where
               absurd (ne (sym (before_is g x i before-x) ∙ ap (λ (k : ℕ). symbol_of (at g (k + 1))) same ∙ before_is g y j before-y))
           by_items false t = differ a b later rest t
 
--- ---- symbols by kind and number
-symbol_number : (kind x other y : ℕ) → symbol_by kind x ≡ symbol_by other y → y ≡ x
-unfolding symbol_by
-symbol_number kind x other y e = go (eqb kind 1) (eqb other 1) e
-  where
-    go : (a b : Bool) → pick a (terminal x) (nonterminal x) ≡ pick b (terminal y) (nonterminal y) → y ≡ x
-    go true true e = cc
-    go true false e = cc
-    go false true e = cc
-    go false false e = cc
-
-symbol_kind : (kind x other y : ℕ) → kind < 2 → other < 2 → symbol_by kind x ≡ symbol_by other y → other ≡ kind
-unfolding symbol_by
-symbol_kind zero x zero y h l e = refl
-symbol_kind zero x (suc zero) y h l e = cc
-symbol_kind (suc zero) x zero y h l e = cc
-symbol_kind (suc zero) x (suc zero) y h l e = refl
-symbol_kind zero x (suc (suc k)) y h l e = absurd (omega arith)
-symbol_kind (suc (suc k)) x other y h l e = absurd (omega arith)
-symbol_kind (suc zero) x (suc (suc k)) y h l e = absurd (omega arith)
-
 -- ---- the comparison with state t
-pub own_run : (bytes : List ℕ) (kind x s t : ℕ) (w : List ℕ) (first end : ℕ) → Comparable bytes kind x s t w → first ≡ first_of (view w) s → end ≡ first_of (view w) (s + 1) → PlacedRun (length (records bytes)) (view w) first end
-own_run bytes kind x s t w first end able ef ee = rw (ef, ee) able.own
+pub own_run : (bytes : List ℕ) (x : Symbol) (s t : ℕ) (w : List ℕ) (first end : ℕ) → Comparable bytes x s t w → first ≡ first_of (view w) s → end ≡ first_of (view w) (s + 1) → PlacedRun (length (records bytes)) (view w) first end
+own_run bytes x s t w first end able ef ee = rw (ef, ee) able.own
 
-module _ (bytes : List ℕ) (kind x s t : ℕ) (w : List ℕ) (word : ℕ) (able : Comparable bytes kind x s t w) (read : word ≡ parent_word (view w) t) where
-  pub number_differs : (a : ℕ) → a ≡ middle word → (a ≡ x → ⊥)
-      → false ≡ same_kernel (kernel_over (records bytes) (symbol_by kind x) (state_in (view w) s)) (kernel_over (records bytes) (parent_symbol (view w) t) (state_in (view w) (parent_of (view w) t)))
-  number_differs a is ne = kernels_differ (records bytes) _ _ _ _ (λ e. ne (is ∙ ap middle read ∙ symbol_number kind x _ _ e)) able.some
-
-  pub kind_differs : (b : ℕ) → b ≡ high word → (b ≡ kind → ⊥)
-      → false ≡ same_kernel (kernel_over (records bytes) (symbol_by kind x) (state_in (view w) s)) (kernel_over (records bytes) (parent_symbol (view w) t) (state_in (view w) (parent_of (view w) t)))
-  kind_differs b is ne = kernels_differ (records bytes) _ _ _ _ (λ e. ne (is ∙ ap high read ∙ symbol_kind kind x _ _ able.kinds.0 able.kinds.1 e)) able.some
+module _ (bytes : List ℕ) (x : Symbol) (s t : ℕ) (w : List ℕ) (word : ℕ) (able : Comparable bytes x s t w) (read : word ≡ parent_word (view w) t) where
+  pub symbol_differs : (y : Symbol) → y ≡ symbol_by (high word) (middle word) → (x ≡ y → ⊥)
+      → false ≡ same_kernel (kernel_over (records bytes) x (state_in (view w) s)) (kernel_over (records bytes) (parent_symbol (view w) t) (state_in (view w) (parent_of (view w) t)))
+  symbol_differs y is ne = kernels_differ (records bytes) _ _ _ _ (λ e. ne (e ∙ sym (is ∙ ap (λ (v : ℕ). symbol_by (high v) (middle v)) read))) able.some
 
   module _ (p : ℕ) (parent : p ≡ low word) where
     parent_is : p ≡ parent_of (view w) t
@@ -122,15 +98,15 @@ module _ (bytes : List ℕ) (kind x s t : ℕ) (w : List ℕ) (word : ℕ) (able
     other_run other last eo el = rw (eo, el, parent_is) able.other
 
     module _ (first end other last : ℕ) (ef : first ≡ first_of (view w) s) (ee : end ≡ first_of (view w) (s + 1)) (eo : other ≡ first_of (view w) p) (el : last ≡ first_of (view w) (p + 1)) where
-      pub kernels_compared : (a b : ℕ) (r : Bool) → a ≡ middle word → a ≡ x → b ≡ high word → b ≡ kind
-          → r ≡ same_kernel (kernel_over (records bytes) (symbol_by kind x) (run_in (view w) first end)) (kernel_over (records bytes) (symbol_by kind x) (run_in (view w) other last))
-          → r ≡ same_kernel (kernel_over (records bytes) (symbol_by kind x) (state_in (view w) s)) (kernel_over (records bytes) (parent_symbol (view w) t) (state_in (view w) (parent_of (view w) t)))
-      kernels_compared a b r is-a same-a is_b same-b says =
-          let symbol : symbol_by kind x ≡ parent_symbol (view w) t = ap₂ symbol_by (sym same-b ∙ is_b ∙ ap high read) (sym same-a ∙ is-a ∙ ap middle read) in
+      pub kernels_compared : (y : Symbol) (r : Bool) → y ≡ symbol_by (high word) (middle word) → x ≡ y
+          → r ≡ same_kernel (kernel_over (records bytes) x (run_in (view w) first end)) (kernel_over (records bytes) x (run_in (view w) other last))
+          → r ≡ same_kernel (kernel_over (records bytes) x (state_in (view w) s)) (kernel_over (records bytes) (parent_symbol (view w) t) (state_in (view w) (parent_of (view w) t)))
+      kernels_compared y r is same says =
+          let symbol : x ≡ parent_symbol (view w) t = same ∙ is ∙ ap (λ (v : ℕ). symbol_by (high v) (middle v)) read in
           let mine : run_in (view w) first end ≡ state_in (view w) s = ap₂ (run_in (view w)) ef ee ∙ sym (state_run (view w) s) in
           let theirs : run_in (view w) other last ≡ state_in (view w) (parent_of (view w) t) =
           ap₂ (run_in (view w)) (eo ∙ ap (first_of (view w)) parent_is) (el ∙ ap (λ (k : ℕ). first_of (view w) (k + 1)) parent_is) ∙ sym (state_run (view w) (parent_of (view w) t)) in
-          says ∙ ap₂ same_kernel (ap (kernel_over (records bytes) (symbol_by kind x)) mine) (ap₂ (kernel_over (records bytes)) symbol theirs)
+          says ∙ ap₂ same_kernel (ap (kernel_over (records bytes) x) mine) (ap₂ (kernel_over (records bytes)) symbol theirs)
 
 -- ---- the search by numbers of states
 place_from : {A : Type 0} (test : A → Bool) (f : ℕ → A) (n i : ℕ) → i + place_of test (each_from f i n) ≡ first_from (λ t. test (f t)) n i
@@ -176,46 +152,31 @@ zero_differs g x es start v some = has_is g (kernel_over g x es) start v 0 ∙ a
         let (i, is, before) = kernel_items g x es a (rw e here) in
         sym (differ a (record { item = 0; next = 0; set = start }) later [] (ne_eqb a.item 0 (λ z. omega arith)))
 
--- the search has come to state t
-pub record SearchLeft (bytes : List ℕ) (kind x s count : ℕ) (w : List ℕ) (t : ℕ) : Type 0 where
-  pub from : 0 < t
-  pub to : t ≤ count
-  pub left : (start : TokenSet) → first_from (has_kernel_of (records bytes) (kernel_over (records bytes) (symbol_by kind x) (state_in (view w) s)) start (view w)) (count - t) t
-      ≡ place_of (same_kernel (kernel_over (records bytes) (symbol_by kind x) (state_in (view w) s))) (kernels_in (records bytes) start (view w) count)
+-- ---- the search is among the states that have a parent
+first_alike : (test other : ℕ → Bool) (n i : ℕ) → ((k : ℕ) → i ≤ k → k < i + n → test k ≡ other k) → first_from test n i ≡ first_from other n i
+unfolding first_from
+first_alike test other zero i alike = refl
+first_alike test other (suc n) i alike = ap₂ (λ (b : Bool) (r : ℕ). pick b i r) (alike i (omega arith) (omega arith)) (first_alike test other n (suc i) (λ k a b. alike k (omega arith) (omega arith)))
 
-pub search_begins : (bytes : List ℕ) (kind x s count : ℕ) (w : List ℕ) → 0 < count → HasKernel (records bytes) (symbol_by kind x) (view w) s → SearchLeft bytes kind x s count w 1
-search_begins bytes kind x s count w h some = record {
-  from = omega arith;
-  to = omega arith;
-  left = λ start. sym (kernels_place (records bytes) _ start (view w) count ∙ first_miss _ count (count - 1) 0 (omega arith) (zero_differs (records bytes) (symbol_by kind x) (state_in (view w) s) start (view w) some));
-}
-
-pub comparable : (bytes : List ℕ) (kind x s count : ℕ) (w : List ℕ) (t : ℕ) → Parented bytes (s + 1) count w → s < 128 → kind < 2 → HasKernel (records bytes) (symbol_by kind x) (view w) s → SearchLeft bytes kind x s count w t → t < count
-    → Comparable bytes kind x s t w
-comparable bytes kind x s count w t parented small h some walk l =
-    let p = parented.parents t walk.from l in
+pub comparable : (bytes : List ℕ) (x : Symbol) (s count : ℕ) (w : List ℕ) (t : ℕ) → Parented bytes (s + 1) count w → s < 128 → HasKernel (records bytes) x (view w) s → 1 ≤ t → t < count → Comparable bytes x s t w
+comparable bytes x s count w t parented small some from to =
+    let p = parented.parents t (omega arith) to in
     record {
       long = parented.long;
       states = (small, omega (arith, parented.few), omega arith);
       own = parented.placed.each s (omega arith);
       other = parented.placed.each (parent_of (view w) t) p;
-      kinds = (h, parented.kinds t walk.from l);
       some = some;
     }
 
-module _ (bytes : List ℕ) (kind x s count : ℕ) (w : List ℕ) (t : ℕ) (walk : SearchLeft bytes kind x s count w t) where
-  pub search_ends : count ≤ t → KernelPlace bytes kind x s count w count
-  search_ends h = record { found = λ start. first_over _ count t _ walk.to h (walk.left start) }
-
-  module _ (b : Bool) (h : t < count)
-      (says : b ≡ same_kernel (kernel_over (records bytes) (symbol_by kind x) (state_in (view w) s)) (kernel_over (records bytes) (parent_symbol (view w) t) (state_in (view w) (parent_of (view w) t)))) where
-    tested : (start : TokenSet) → b ≡ has_kernel_of (records bytes) (kernel_over (records bytes) (symbol_by kind x) (state_in (view w) s)) start (view w) t
-    tested start =
-        let kernel : State = kernel_over (records bytes) (symbol_by kind x) (state_in (view w) s) in
-        says ∙ ap (same_kernel kernel) (sym (kernel_other (records bytes) kernel start (view w) t walk.from)) ∙ sym (has_is (records bytes) kernel start (view w) t)
-
-    pub search_found : b ≡ true → KernelPlace bytes kind x s count w t
-    search_found e = record { found = λ start. first_at _ count t _ b h (walk.left start) (tested start) e }
-
-    pub search_turns : b ≡ false → SearchLeft bytes kind x s count w (t + 1)
-    search_turns e = record { from = omega arith; to = omega arith; left = λ start. first_turn _ count t _ b h (walk.left start) (tested start) e }
+pub kernel_found : (bytes : List ℕ) (x : Symbol) (s count : ℕ) (w : List ℕ) (r : Option ℕ) → 0 < count → HasKernel (records bytes) x (view w) s
+    → r ≡ place_below count (first_from (λ t. same_kernel (state_kernel bytes x (view w) s) (own_kernel bytes (view w) t)) (count - 1) 1) → KernelPlace bytes x s count w r
+kernel_found bytes x s count w r begun some is = record {
+  found = λ start.
+      let kernel : State = kernel_over (records bytes) x (state_in (view w) s) in
+      let test : ℕ → Bool = has_kernel_of (records bytes) kernel start (view w) in
+      let later : first_from test count 0 ≡ first_from test (count - 1) 1 = first_miss _ count (count - 1) 0 (omega arith) (zero_differs (records bytes) x (state_in (view w) s) start (view w) some) in
+      let alike : first_from (λ t. same_kernel kernel (own_kernel bytes (view w) t)) (count - 1) 1 ≡ first_from test (count - 1) 1 =
+      first_alike _ test (count - 1) 1 (λ t a b. ap (same_kernel kernel) (sym (kernel_other (records bytes) kernel start (view w) t (omega arith))) ∙ sym (has_is (records bytes) kernel start (view w) t)) in
+      is ∙ ap (place_below count) (alike ∙ sym later ∙ sym (kernels_place (records bytes) kernel start (view w) count));
+}

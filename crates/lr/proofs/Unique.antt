@@ -5,20 +5,19 @@ use mathlib.Core.Path.{◌≡◌, sym, ap, ◌∙◌}
 use mathlib.Core.List.{List}
 use native.Mathlib.Omega.{arith}
 use lib.ListN.{length}
-use Rattle.base.proofs.Unique.{one_answer}
+use Rattle.std.specs.Prelude.{Option, Result, Ok, Err}
+use Rattle.rules.specs.declared.BuildRefusal.{BuildRefusal}
 use Rattle.rules.specs.Records.{Grammar, records}
 use Rattle.rules.specs.Tokens.{TokenSet}
 use Rattle.rules.specs.Grammar.{Symbol}
 use Rattle.rules.specs.States.{done, Expansion}
 use Rattle.room.specs.Areas.{Room, view}
-use Rattle.lr.specs.declared.Built.{Built}
-use Rattle.lr.specs.declared.Built.TheVariants.{States, Refused}
 use Rattle.lr.specs.Kernels.{KernelPlace}
 use Rattle.lr.specs.Expansions.{expansion_in, expanded_to, Transitions}
 use Rattle.lr.proofs.Growing.{kernels_length}
 
-pub place_one : (bytes : List ℕ) (kind x s count : ℕ) (work : List ℕ) (t u : ℕ) → KernelPlace bytes kind x s count work t → KernelPlace bytes kind x s count work u → t ≡ u
-place_one bytes kind x s count work t u one two = one_answer _ t u (one.found 0) (two.found 0)
+pub place_one : (bytes : List ℕ) (x : Symbol) (s count : ℕ) (work : List ℕ) (t u : Option ℕ) → KernelPlace bytes x s count work t → KernelPlace bytes x s count work u → t ≡ u
+place_one bytes x s count work t u one two = one.found 0 ∙ sym (two.found 0)
 
 -- ---- transitions
 same_done : (a b : Expansion) → done a ≡ done b → a ≡ b
@@ -28,15 +27,15 @@ expansion_length : (g : Grammar) (start : TokenSet) (r : Room) (s count : ℕ) �
 unfolding expansion_in
 expansion_length g start r s count = kernels_length g start r count
 
-answers_same : (g : Grammar) (start : TokenSet) (p q : Room) (s : ℕ) (r a : Built) → expanded_to g start p s r ≡ expanded_to g start q s a → r ≡ a
+answers_same : (g : Grammar) (start : TokenSet) (p q : Room) (s : ℕ) (r a : Result ℕ BuildRefusal) → expanded_to g start p s r ≡ expanded_to g start q s a → r ≡ a
 unfolding expanded_to
-answers_same g start p q s (States count) (States other) e =
-    ap States (sym (expansion_length g start p s count) ∙ ap (λ (x : Expansion). length x.kernels) (same_done _ _ e) ∙ expansion_length g start q s other)
-answers_same g start p q s (States count) (Refused why) e = let z : ◌≡◌ {A = ℕ} 0 1 = cc in absurd (omega arith)
-answers_same g start p q s (Refused why) (States count) e = let z : ◌≡◌ {A = ℕ} 0 1 = cc in absurd (omega arith)
-answers_same g start p q s (Refused why) (Refused other) e = cc
+answers_same g start p q s (Ok count) (Ok other) e =
+    ap Ok (sym (expansion_length g start p s count) ∙ ap (λ (x : Expansion). length x.kernels) (same_done _ _ e) ∙ expansion_length g start q s other)
+answers_same g start p q s (Ok count) (Err why) e = let z : ◌≡◌ {A = ℕ} 0 1 = cc in absurd (omega arith)
+answers_same g start p q s (Err why) (Ok count) e = let z : ◌≡◌ {A = ℕ} 0 1 = cc in absurd (omega arith)
+answers_same g start p q s (Err why) (Err other) e = cc
 
-module _ (bytes : List ℕ) (xs : List Symbol) (s count : ℕ) (work w u : List ℕ) (r a : Built) (one : Transitions bytes xs s count work w r) (two : Transitions bytes xs s count work u a) where
+module _ (bytes : List ℕ) (xs : List Symbol) (s count : ℕ) (work w u : List ℕ) (r a : Result ℕ BuildRefusal) (one : Transitions bytes xs s count work w r) (two : Transitions bytes xs s count work u a) where
   pub transitions_outcome_one : (start : TokenSet) → expanded_to (records bytes) start (view w) s r ≡ expanded_to (records bytes) start (view u) s a
   transitions_outcome_one start = one.outcome start ∙ sym (two.outcome start)
 

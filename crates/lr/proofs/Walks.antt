@@ -1,40 +1,65 @@
 -- The walk along the entries of a state that stand before a symbol.
-use Prim.Native.Nat.{ℕ, ◌+◌, ◌-◌, ◌<◌}
+use Prim.Native.Nat.{ℕ, ◌+◌, ◌<◌, ◌≤◌}
 use mathlib.Core.Path.{◌≡◌, refl, sym, ◌∙◌}
-use mathlib.Core.Bool.{Bool, true, false}
+use mathlib.Core.Bool.{Bool, true, false, true≢false}
 use native.Mathlib.Omega.{arith}
-use lib.Dec.{eqb}
-use borrow.Author.Tests.{eq-eqb, ne_eqb}
-use Rattle.base.specs.Loops.{first_from}
-use Rattle.rules.specs.Records.{Grammar}
-use Rattle.rules.specs.Grammar.{Symbol, nonterminal, terminal, is_before}
-use Rattle.room.specs.Areas.{Room}
+use mathlib.Core.List.{List}
+use lib.ListN.{length}
+use lib.Dec.{eqb, ltb}
+use borrow.Author.Tests.{eq-eqb, ne_eqb, ltb-true, ltb-false}
+use Rattle.std.specs.Prelude.{Some, None, is_some, unwrap_or}
+use Rattle.base.specs.Pick.{pick}
+use Rattle.base.specs.Loops.{place_below}
+use Rattle.rules.specs.Records.{records}
+use Rattle.room.specs.Areas.{Room, view}
+use Rattle.room.specs.Bounds.{LongEnough}
 use Rattle.lookahead.specs.Sets.{set_at}
 use Rattle.states.specs.StatesIn.{entry_in, PlacedRun}
 use Rattle.states.proofs.States.{set_of_lem}
-use Rattle.lr.specs.Kernels.{symbol_by, stands_before, first_before, same_entry}
+use Rattle.states.proofs.Places.{item_fits}
+use Rattle.lr.specs.Kernels.{ReadableEntry, same_entry}
 
--- ---- a symbol by its kind
-module _ (g : Grammar) (kind x i : ℕ) (r : Bool) where
-  pub before_of_terminal : kind ≡ 1 → r ≡ is_before g (terminal x) i → r ≡ is_before g (symbol_by kind x) i
-  unfolding symbol_by
-  before_of_terminal e p = let t : eqb kind 1 ≡ true = eq-eqb kind 1 e in rw t p
+-- ---- places below an end
+module _ (n i : ℕ) where
+  pub below_some : (t : ℕ) → place_below n i ≡ Some t → (t ≡ i) × (i < n)
+  below_some t = go (ltb i n) refl
+    where
+      go : (b : Bool) → ltb i n ≡ b → pick b (Some i) None ≡ Some t → (t ≡ i) × (i < n)
+      go true f e = (cc, ltb-true i n f)
+      go false f e = let z : ◌≡◌ {A = ℕ} 0 1 = cc in absurd (omega arith)
 
-  pub before_of_nonterminal : (kind ≡ 1 → ⊥) → r ≡ is_before g (nonterminal x) i → r ≡ is_before g (symbol_by kind x) i
-  unfolding symbol_by
-  before_of_nonterminal ne p = let f : eqb kind 1 ≡ false = ne_eqb kind 1 ne in rw f p
+  pub below_none : place_below n i ≡ None → n ≤ i
+  below_none = go (ltb i n) refl
+    where
+      go : (b : Bool) → ltb i n ≡ b → pick b (Some i) None ≡ None → n ≤ i
+      go true f e = let z : ◌≡◌ {A = ℕ} 0 1 = cc in absurd (omega arith)
+      go false f e = ltb-false i n f
 
--- ---- the first place
-pub before_start : (g : Grammar) (x : Symbol) (v : Room) (first end : ℕ) → first_from (stands_before g x v) (end - first) first ≡ first_before g x v first end
-unfolding first_before
-before_start g x v first end = refl
+  pub below_or_end : i ≤ n → unwrap_or (place_below n i) n ≡ i
+  below_or_end h = go (ltb i n) refl
+    where
+      go : (b : Bool) → ltb i n ≡ b → unwrap_or (pick b (Some i) None) n ≡ i
+      go true f = refl
+      go false f = omega (arith, ltb-false i n f)
 
-pub before_read : (g : Grammar) (x : Symbol) (v : Room) (k i : ℕ) (b : Bool) → i ≡ (entry_in v k).item → b ≡ is_before g x i → b ≡ stands_before g x v k
-unfolding stands_before
-before_read g x v k i b is says = rw (← is) says
+pub some_below : (n i : ℕ) → is_some (place_below n i) ≡ true → i < n
+some_below n i = go (ltb i n) refl
+  where
+    go : (b : Bool) → ltb i n ≡ b → is_some (pick b (Some i) None) ≡ true → i < n
+    go true f e = ltb-true i n f
+    go false f e = absurd (true≢false (sym e))
 
-pub place_fits : (record_count : ℕ) (v : Room) (first end k : ℕ) → PlacedRun record_count v first end → k < end → k < 2048
-place_fits record_count v first end k run h = omega (arith, run.bounded)
+pub none_below : (n i : ℕ) → is_some (place_below n i) ≡ false → n ≤ i
+none_below n i = go (ltb i n) refl
+  where
+    go : (b : Bool) → ltb i n ≡ b → is_some (pick b (Some i) None) ≡ false → n ≤ i
+    go true f e = absurd (true≢false e)
+    go false f e = ltb-false i n f
+
+-- an entry of a run can be read
+pub entry_ready : (bytes work : List ℕ) (first end k : ℕ) → LongEnough work → PlacedRun (length (records bytes)) (view work) first end → first ≤ k → k < end
+    → ReadableEntry bytes work k
+entry_ready bytes work first end k long run from to = record { long = long; place = omega (arith, run.bounded); item = item_fits bytes (view work) first end k _ run from to refl }
 
 -- ---- two entries
 module _ (v : Room) (j k a b : ℕ) (one : a ≡ (entry_in v j).item) (two : b ≡ (entry_in v k).item) where

@@ -1,6 +1,6 @@
 -- The state that is being expanded, and the kernels of all states so far, in the room; and what a transition makes of them.
-use Rattle.std.specs.Prelude.{ℕ, ◌+◌, ◌≤◌, ◌<◌, ◌≡◌, List, []}
-use Rattle.base.specs.Each.{each_from}
+use Rattle.std.specs.Prelude.{ℕ, ◌+◌, ◌≤◌, ◌<◌, ◌≡◌, List, [], Result, Ok, Err}
+use Rattle.rules.specs.declared.BuildRefusal.{BuildRefusal}
 use Rattle.rules.specs.Limits.{limits}
 use Rattle.rules.specs.Records.{Grammar, records}
 use Rattle.rules.specs.Tokens.{TokenSet}
@@ -8,19 +8,17 @@ use Rattle.rules.specs.Grammar.{Symbol}
 use Rattle.rules.specs.States.{Outcome, done, refused, each_in_turn, Expansion, add_transition}
 use Rattle.room.specs.Areas.{Room, with_entries, with_visited, view}
 use Rattle.states.specs.StatesIn.{entry_in, first_of, state_in}
-use Rattle.lr.specs.declared.Built.{Built}
-use Rattle.lr.specs.declared.Built.TheVariants.{States, Refused}
-use Rattle.lr.specs.Kernels.{symbol_by, kernels_in, Parented}
+use Rattle.lr.specs.Kernels.{kernels_in, Parented}
 
 -- state 0 begins with the set `start`, state s is being expanded, and there are `count` states
 unfoldable pub expansion_in : Grammar → TokenSet → Room → ℕ → ℕ → Expansion
 unfolding kernels_in state_in
 expansion_in g start r s count = record { kernels = kernels_in g start r count; entries = state_in r s }
 
-unfoldable pub expanded_to : Grammar → TokenSet → Room → ℕ → Built → Outcome Expansion
+unfoldable pub expanded_to : Grammar → TokenSet → Room → ℕ → Result ℕ BuildRefusal → Outcome Expansion
 unfolding expansion_in
-expanded_to g start r s (States count) = done (expansion_in g start r s count)
-expanded_to g start r s (Refused why) = refused why
+expanded_to g start r s (Ok count) = done (expansion_in g start r s count)
+expanded_to g start r s (Err why) = refused why
 
 -- q is v but for the next states of the entries of state s, and for parents
 pub record OnlyExpanded (v q : Room) (s : ℕ) : Type 0 where
@@ -30,21 +28,17 @@ pub record OnlyExpanded (v q : Room) (s : ℕ) : Type 0 where
   pub items : (k : ℕ) → (entry_in q k).item ≡ (entry_in v k).item
 
 -- no state is lost, and what reading the kernels asks holds again
-unfoldable pub StillParented : List ℕ → ℕ → ℕ → Built → List ℕ → Type 0
-StillParented bytes s count (States more) work = (count ≤ more) × Parented bytes (s + 1) more work
-StillParented bytes s count (Refused why) work = Unit {0}
+unfoldable pub StillParented : List ℕ → ℕ → ℕ → Result ℕ BuildRefusal → List ℕ → Type 0
+StillParented bytes s count (Ok more) work = (count ≤ more) × Parented bytes (s + 1) more work
+StillParented bytes s count (Err why) work = Unit {0}
 
-pub record Transition (bytes : List ℕ) (kind x s count : ℕ) (work after : List ℕ) (r : Built) : Type 0 where
-  pub outcome : (start : TokenSet) → expanded_to (records bytes) start (view after) s r ≡ add_transition limits (records bytes) (symbol_by kind x) (expansion_in (records bytes) start (view work) s count)
+pub record Transition (bytes : List ℕ) (x : Symbol) (s count : ℕ) (work after : List ℕ) (r : Result ℕ BuildRefusal) : Type 0 where
+  pub outcome : (start : TokenSet) → expanded_to (records bytes) start (view after) s r ≡ add_transition limits (records bytes) x (expansion_in (records bytes) start (view work) s count)
   pub only : OnlyExpanded (view work) (view after) s
   pub left : StillParented bytes s count r after
 
--- ---- the symbols of a kind that are below n, and the transitions over a list of symbols in turn
-unfoldable pub symbols_below : ℕ → ℕ → List Symbol
-unfolding each_from symbol_by
-symbols_below kind n = each_from (symbol_by kind) 0 n
-
-pub record Transitions (bytes : List ℕ) (xs : List Symbol) (s count : ℕ) (work after : List ℕ) (r : Built) : Type 0 where
+-- ---- the transitions over a list of symbols in turn
+pub record Transitions (bytes : List ℕ) (xs : List Symbol) (s count : ℕ) (work after : List ℕ) (r : Result ℕ BuildRefusal) : Type 0 where
   pub outcome : (start : TokenSet) → expanded_to (records bytes) start (view after) s r ≡ each_in_turn (add_transition limits (records bytes)) xs (expansion_in (records bytes) start (view work) s count)
   pub only : OnlyExpanded (view work) (view after) s
   pub left : StillParented bytes s count r after

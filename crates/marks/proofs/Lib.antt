@@ -1,3 +1,2 @@
 pub mod Changes
-pub mod Members
-pub mod Stores
+pub mod Words

@@ -8,18 +8,29 @@ use Rattle.room.specs.Areas.{Room, with_visited, with_successors, with_walked, p
 use Rattle.room.specs.Bounds.{max_items, visited_words, successor_words, walked_words}
 use Rattle.words.specs.Bits.{word_bits, bits_in}
 
+-- ---- the words of the sets
+-- of the successors of state s, of the items visited in state s, and of the states walked
+abbrev pub successor_word : Room → ℕ → ℕ → ℕ
+successor_word r s k = get_or r.successors (successor_words * s + k) 0
+
+abbrev pub visited_word : Room → ℕ → ℕ → ℕ
+visited_word r s k = get_or r.visited (visited_words * s + k) 0
+
+abbrev pub walked_word : Room → ℕ → ℕ
+walked_word r k = get_or r.walked k 0
+
 -- ---- the sets
 -- the successors of state s
 unfoldable pub successors_in : Room → ℕ → TokenSet
-successors_in r s = bits_in (λ k. get_or r.successors (successor_words * s + k) 0) max_states
+successors_in r s = bits_in (successor_word r s) max_states
 
 -- the items visited in state s
 unfoldable pub visited_in : Room → ℕ → TokenSet
-visited_in r s = bits_in (λ k. get_or r.visited (visited_words * s + k) 0) max_items
+visited_in r s = bits_in (visited_word r s) max_items
 
 -- the states walked
 unfoldable pub walked_in : Room → TokenSet
-walked_in r = bits_in (λ k. get_or r.walked k 0) max_states
+walked_in r = bits_in (walked_word r) max_states
 
 -- a word of the states that link to state s: the first lies among the origins, the second among the heads
 abbrev pub link_word : Room → ℕ → ℕ → ℕ
@@ -33,6 +44,15 @@ links_in r s = bits_in (link_word r s) max_states
 -- a word with the bit of number t
 abbrev pub with_bit : ℕ → ℕ → ℕ
 with_bit word t = join word (single (t % word_bits))
+
+abbrev pub put_successor_word : ℕ → ℕ → ℕ → Room → Room
+put_successor_word s k v r = put_successors (successor_words * s + k) v r
+
+abbrev pub put_visited_word : ℕ → ℕ → ℕ → Room → Room
+put_visited_word s k v r = put_visited (visited_words * s + k) v r
+
+abbrev pub put_walked_word : ℕ → ℕ → Room → Room
+put_walked_word k v r = put_walked k v r
 
 abbrev pub successor_added : ℕ → ℕ → Room → Room
 successor_added s t r = let at = successor_words * s + t / word_bits in put_successors at (with_bit (get_or r.successors at 0) t) r

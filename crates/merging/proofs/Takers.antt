@@ -1,6 +1,7 @@
 -- Who takes columns: a state takes those of its group, and the inconsistent state and its clones do so one after the other.
 use Prim.Native.Nat.{ℕ, ◌+◌, ◌<◌, ◌≤◌}
 use mathlib.Core.Path.{◌≡◌, refl, sym, ap, ◌∙◌}
+use mathlib.Core.Logic.{◌⊎◌, inl, inr}
 use mathlib.Core.Bool.{Bool, true, false, not, ◌&&◌}
 use mathlib.Core.List.{List, ◌∷◌}
 use native.Mathlib.Omega.{arith}
@@ -69,15 +70,12 @@ module _ (lanes : Lanes) (s t count o : ℕ) (v : Room) (low : t < count) (is : 
   none_takes : is_clone_of (merge_in v count) s t ≡ false → TakesClone lanes s t count v v
   none_takes e = record { states = rw e; only = none_taken v }
 
-  pub no_clone : (o ≡ s → ⊥) → TakesClone lanes s t count v v
-  no_clone ne = none_takes (tested false (eqb t s) (ne_eqb o s ne) refl)
+  pub no_clone : (o ≡ s) × (t ≡ s) ⊎ (o ≡ s → ⊥) → TakesClone lanes s t count v v
+  no_clone (inl same) = none_takes (tested true true (eq-eqb o s same.0) (eq-eqb t s same.1))
+  no_clone (inr ne) = none_takes (tested false (eqb t s) (ne_eqb o s ne) refl)
 
-  module _ (from : o ≡ s) where
-    pub clone_itself : t ≡ s → TakesClone lanes s t count v v
-    clone_itself e = none_takes (tested true true (eq-eqb o s from) (eq-eqb t s e))
-
-    pub clone_takes : (q : Room) → (t ≡ s → ⊥) → TakesGroup lanes t count v q → TakesClone lanes s t count v q
-    clone_takes q ne takes = record { states = rw (tested true false (eq-eqb o s from) (ne_eqb t s ne)) takes.states; only = takes.only }
+  pub clone_takes : (q : Room) → o ≡ s → (t ≡ s → ⊥) → TakesGroup lanes t count v q → TakesClone lanes s t count v q
+  clone_takes q from ne takes = record { states = rw (tested true false (eq-eqb o s from) (ne_eqb t s ne)) takes.states; only = takes.only }
 
 -- ---- the loop over the clones
 -- what is left of it from state t on, where u is the room in which it began

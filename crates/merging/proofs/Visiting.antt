@@ -8,6 +8,7 @@ use lib.ListN.{get_or, set}
 use borrow.Author.Tests.{not-true, not-false}
 use Rattle.rules.specs.Limits.{limits}
 use Rattle.rules.specs.Records.{records}
+use Rattle.std.specs.Prelude.{Result, Ok, Err}
 use Rattle.rules.specs.States.{State, done, refused, conflict_count}
 use Rattle.rules.specs.Lanes.{LaneTable, Action, all_columns, pairwise_disjoint, rows_disjoint, beachheads}
 use Rattle.rules.specs.Merge.{Merge, take_columns, take_all, merge_begun, merged, merge_rows, resolve_by}
@@ -22,8 +23,6 @@ use Rattle.groups.specs.MergeIn.{merge_in, table_of}
 use Rattle.groups.proofs.Tested.{closure_only}
 use Rattle.construct.specs.Merges.{OnlyMerge, Mergeable, Grown}
 use Rattle.construct.specs.Walks.{outcome_in, WalkedTo}
-use Rattle.construct.specs.declared.Walked.{Walked}
-use Rattle.construct.specs.declared.Walked.TheVariants.{Done, Refused}
 use Rattle.construct.proofs.Changes.{closure_merge}
 use Rattle.construct.proofs.Frames.{only_none, only_both, table_kept}
 use Rattle.takings.specs.Takes.{Enclosed, Taken}
@@ -44,9 +43,9 @@ unfolding merge_rows walk_each
 walking bytes states s actions table e = rw e
 
 -- what the walks from the beachheads leave
-module _ (bytes : List ℕ) (lanes : Lanes) (u : Room) (y : Walked) (z : Room) (walks : WalksAll bytes lanes u y z) (count : ℕ) (ends : y ≡ Done count) where
+module _ (bytes : List ℕ) (lanes : Lanes) (u : Room) (y : Result ℕ BuildRefusal) (z : Room) (walks : WalksAll bytes lanes u y z) (count : ℕ) (ends : y ≡ Ok count) where
   grown : Grown bytes lanes lanes.states count z
-  grown = subst (λ (o : Walked). WalkedTo bytes lanes lanes.states o z) ends walks.left
+  grown = subst (λ (o : Result ℕ BuildRefusal). WalkedTo bytes lanes lanes.states o z) ends walks.left
 
   pub walks_ready : Mergeable bytes lanes count z
   walks_ready = grown.ready
@@ -55,7 +54,7 @@ module _ (bytes : List ℕ) (lanes : Lanes) (u : Room) (y : Walked) (z : Room) (
   walks_inside s h = omega (arith, grown.grown)
 
 module _ (bytes : List ℕ) (lanes : Lanes) (s : ℕ) (v : Room) (b : Bool) (tested : b ≡ rows_disjoint (table_of lanes v)) where
-  pub rows_overlap : (conflicts : ℕ) → not b ≡ true → conflicts ≡ conflict_count (records bytes) (states_of lanes v) → MergesRows bytes lanes s v (Refused (Conflicts conflicts)) v
+  pub rows_overlap : (conflicts : ℕ) → not b ≡ true → conflicts ≡ conflict_count (records bytes) (states_of lanes v) → MergesRows bytes lanes s v (Err (Conflicts conflicts)) v
   unfolding states_after
   rows_overlap conflicts e is = record {
     outcome = ap (λ (n : ℕ). refused (Conflicts n)) is ∙ sym (overlapping bytes (states_of lanes v) s (actions_for lanes v) (table_of lanes v) (sym tested ∙ not-true b e));
@@ -64,7 +63,7 @@ module _ (bytes : List ℕ) (lanes : Lanes) (s : ℕ) (v : Room) (b : Bool) (tes
   }
 
   -- the walks from the beachheads were made in the room u, where the merge begins
-  module _ (apart : not b ≡ false) (u : Room) (begun : Begun lanes.states v u) (y : Walked) (z : Room) (walks : WalksAll bytes lanes u y z) where
+  module _ (apart : not b ≡ false) (u : Room) (begun : Begun lanes.states v u) (y : Result ℕ BuildRefusal) (z : Room) (walks : WalksAll bytes lanes u y z) where
     walked_is : walk_each bytes (table_of lanes v) (beachheads (table_of lanes v)) (merge_begun (states_of lanes v)) ≡ outcome_in y z
     walked_is =
         ap (λ (m : Merge). walk_each bytes (table_of lanes v) (beachheads (table_of lanes v)) m) (sym begun.merge)
@@ -76,23 +75,23 @@ module _ (bytes : List ℕ) (lanes : Lanes) (s : ℕ) (v : Room) (b : Bool) (tes
     only_walks : OnlyMerge v z
     only_walks = only_both v u z (begun_only lanes.states v u begun) walks.only
 
-    pub rows_refused : (why : BuildRefusal) → y ≡ Refused why → MergesRows bytes lanes s v (Refused why) z
+    pub rows_refused : (why : BuildRefusal) → y ≡ Err why → MergesRows bytes lanes s v (Err why) z
     unfolding states_after outcome_in merged
     rows_refused why e = record {
-      outcome = sym (rows_merged ∙ ap (λ (o : Walked). merged (table_of lanes v) (actions_for lanes v) s (outcome_in o z)) e);
+      outcome = sym (rows_merged ∙ ap (λ (o : Result ℕ BuildRefusal). merged (table_of lanes v) (actions_for lanes v) s (outcome_in o z)) e);
       only = only_walks;
       left = tt;
     }
 
-    module _ (count : ℕ) (ends : y ≡ Done count) where
+    module _ (count : ℕ) (ends : y ≡ Ok count) where
       done_is : merged (table_of lanes v) (actions_for lanes v) s (outcome_in y z) ≡ done (take_all (table_of lanes v) (actions_for lanes v) s (merge_in z count))
       unfolding outcome_in merged
-      done_is = ap (λ (o : Walked). merged (table_of lanes v) (actions_for lanes v) s (outcome_in o z)) ends
+      done_is = ap (λ (o : Result ℕ BuildRefusal). merged (table_of lanes v) (actions_for lanes v) s (outcome_in o z)) ends
 
       same_actions : actions_for lanes z ≡ actions_for lanes v
       same_actions = actions_kept v z only_walks lanes
 
-      pub rows_done : (q : Room) → TakesAll lanes s count z q → MergesRows bytes lanes s v (Done count) q
+      pub rows_done : (q : Room) → TakesAll lanes s count z q → MergesRows bytes lanes s v (Ok count) q
       unfolding states_after
       rows_done q takes = record {
         outcome = ap done (takes.states ∙ rw (table_kept v z only_walks lanes, same_actions)) ∙ sym (rows_merged ∙ done_is);
@@ -143,7 +142,7 @@ module _ (bytes : List ℕ) (lanes : Lanes) (s at : ℕ) (v u : Room) (asked : R
     test_is : pairwise_disjoint (all_columns (table_of lanes v)) ≡ b
     test_is = ap pairwise_disjoint (sym columns_are) ∙ sym tested
 
-    pub resolved_at_once : b ≡ true → (q : Room) → Taken lanes.columns at s u q → ResolvesBy bytes lanes s v (Done lanes.states) q
+    pub resolved_at_once : b ≡ true → (q : Room) → Taken lanes.columns at s u q → ResolvesBy bytes lanes s v (Ok lanes.states) q
     unfolding states_after
     resolved_at_once e q taken = record {
       outcome =
@@ -157,7 +156,7 @@ module _ (bytes : List ℕ) (lanes : Lanes) (s at : ℕ) (v u : Room) (asked : R
       };
     }
 
-    pub resolved_by_rows : b ≡ false → (r : Walked) (q : Room) → MergesRows bytes lanes s u r q → ResolvesBy bytes lanes s v r q
+    pub resolved_by_rows : b ≡ false → (r : Result ℕ BuildRefusal) (q : Room) → MergesRows bytes lanes s u r q → ResolvesBy bytes lanes s v r q
     resolved_by_rows e r q merges = record {
       outcome =
           merges.outcome ∙ rw (states_stay, actions_kept v u only_joining lanes, table_kept v u only_joining lanes)

@@ -1,8 +1,9 @@
 -- What the merge of a visit asks, and what it promises.
-use Rattle.std.specs.Prelude.{ℕ, ◌+◌, ◌<◌, ◌≤◌, ◌≡◌, List, length}
+use Rattle.std.specs.Prelude.{ℕ, ◌+◌, ◌<◌, ◌≤◌, ◌≡◌, List, length, Result, Ok, Err}
 use Rattle.rules.specs.Limits.{limits, max_columns}
 use Rattle.rules.specs.Records.{records}
 use Rattle.rules.specs.Grammar.{terminal_count}
+use Rattle.rules.specs.declared.BuildRefusal.{BuildRefusal}
 use Rattle.rules.specs.States.{State, Outcome, done, refused, each_in_turn}
 use Rattle.rules.specs.Lanes.{LaneTable, beachheads}
 use Rattle.rules.specs.Merge.{Merge, walk, merge_rows, resolve_by}
@@ -14,8 +15,6 @@ use Rattle.lane.specs.declared.Lanes.{Lanes}
 use Rattle.groups.specs.MergeIn.{merge_in, table_of}
 use Rattle.construct.specs.Merges.{OnlyMerge}
 use Rattle.construct.specs.Walks.{outcome_in, WalkedTo}
-use Rattle.construct.specs.declared.Walked.{Walked}
-use Rattle.construct.specs.declared.Walked.TheVariants.{Done, Refused}
 use Rattle.merging.specs.Takes.{actions_for}
 
 -- ---- what is asked
@@ -33,35 +32,35 @@ unfoldable pub walk_each : List ℕ → LaneTable → List ℕ → Merge → Out
 walk_each bytes table from m = each_in_turn (walk limits (records bytes) table (limits.states + 1)) from m
 
 -- the walks from the beachheads, of the room v, gave r and the room q
-pub record WalksAll (bytes : List ℕ) (lanes : Lanes) (v : Room) (r : Walked) (q : Room) : Type 0 where
+pub record WalksAll (bytes : List ℕ) (lanes : Lanes) (v : Room) (r : Result ℕ BuildRefusal) (q : Room) : Type 0 where
   pub outcome : outcome_in r q ≡ walk_each bytes (table_of lanes v) (beachheads (table_of lanes v)) (merge_in v lanes.states)
   pub only : OnlyMerge v q
   pub left : WalkedTo bytes lanes lanes.states r q
 
 -- ---- the states after a visit
 -- what the answer says of the room that it left
-unfoldable pub states_after : Walked → Room → Outcome (List State)
-states_after (Done count) q = done (states_in q count)
-states_after (Refused why) q = refused why
+unfoldable pub states_after : Result ℕ BuildRefusal → Room → Outcome (List State)
+states_after (Ok count) q = done (states_in q count)
+states_after (Err why) q = refused why
 
 -- the states are in place, `more` where there were `count`
 pub record Standing (bytes : List ℕ) (count more : ℕ) (q : Room) : Type 0 where
   pub placed : Placed (length (records bytes)) more q
   pub grown : count ≤ more
 
-abbrev pub ResolvedTo : List ℕ → ℕ → Walked → Room → Type 0
-ResolvedTo bytes count (Done more) q = Standing bytes count more q
-ResolvedTo bytes count (Refused why) q = Unit {0}
+abbrev pub ResolvedTo : List ℕ → ℕ → Result ℕ BuildRefusal → Room → Type 0
+ResolvedTo bytes count (Ok more) q = Standing bytes count more q
+ResolvedTo bytes count (Err why) q = Unit {0}
 
 -- a visit of the room v gave r and the room q, as `after` says
-pub record Visits (bytes : List ℕ) (lanes : Lanes) (after : Outcome (List State)) (v : Room) (r : Walked) (q : Room) : Type 0 where
+pub record Visits (bytes : List ℕ) (lanes : Lanes) (after : Outcome (List State)) (v : Room) (r : Result ℕ BuildRefusal) (q : Room) : Type 0 where
   pub outcome : states_after r q ≡ after
   pub only : OnlyMerge v q
   pub left : ResolvedTo bytes lanes.states r q
 
 -- by the rows of the lane table; by the lane table
-abbrev pub MergesRows : List ℕ → Lanes → ℕ → Room → Walked → Room → Type 0
+abbrev pub MergesRows : List ℕ → Lanes → ℕ → Room → Result ℕ BuildRefusal → Room → Type 0
 MergesRows bytes lanes s v r q = Visits bytes lanes (merge_rows limits (records bytes) (states_of lanes v) s (actions_for lanes v) (table_of lanes v)) v r q
 
-abbrev pub ResolvesBy : List ℕ → Lanes → ℕ → Room → Walked → Room → Type 0
+abbrev pub ResolvesBy : List ℕ → Lanes → ℕ → Room → Result ℕ BuildRefusal → Room → Type 0
 ResolvesBy bytes lanes s v r q = Visits bytes lanes (resolve_by limits (records bytes) (states_of lanes v) s (actions_for lanes v) (table_of lanes v)) v r q

@@ -9,7 +9,6 @@ use lib.Seq.{get_or-drop}
 use Rattle.rules.specs.Table.{TableRecord, table_record, table_record_at, table_records_of, table_records}
 use Rattle.rules.specs.Drive.{table_at}
 use Rattle.grammar.specs.Asked.{InRange}
-use Rattle.record.specs.Search.{Ascending, Ascends}
 
 length_records_of_lem : (k : ℕ) (bytes : List ℕ) → length (table_records_of k bytes) ≡ k
 unfolding table_records_of
@@ -35,7 +34,3 @@ records_of_at_lem d (suc k) (suc i) bytes h =
 pub record_at_lem : (bytes : List ℕ) (i : ℕ) → InRange i bytes → table_at (table_records bytes) i ≡ table_record_at bytes (8 * i)
 unfolding table_records table_at
 record_at_lem bytes i h = records_of_at_lem (table_record 0 0 0 0) (length bytes / 8) i bytes (omega arith)
-
--- ---- a table that ascends can be searched
-pub all_ascend : (bytes : List ℕ) (n : ℕ) → n ≡ length (table_records bytes) → Ascends bytes → Ascending (table_records bytes) n
-all_ascend bytes n e all = rw e all

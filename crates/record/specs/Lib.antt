@@ -1,2 +1,4 @@
+pub mod Keys
+pub mod Kinds
 pub mod Lookup
 pub mod Search

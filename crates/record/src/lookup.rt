@@ -3,55 +3,52 @@ ghost use Rattle.std.specs.Prelude.{◌≡◌};
 ghost use Rattle.rules.specs.Table.{table_records, target_of, table_in};
 ghost use Rattle.record.specs.Search.{Ascends};
 ghost use Rattle.record.specs.Lookup.{found_in, act_in};
+ghost use Rattle.record.specs.Kinds.{kind_number};
 
-use crate::records::{GOTO, REDUCE, SHIFT};
-
-// The target of a record, if there is one.
-#[derive(Drop)]
-pub enum Found {
-    Target(u16),
-    Nothing,
-}
+use crate::keys::Key;
+use crate::kinds::Kind;
 
 // What a state does at a token.
-#[derive(Drop)]
+#[derive(Clone, Copy, PartialEq, Eq)]
 pub enum Act {
     Shift(u16),
     Reduce(u16),
-    Nothing,
 }
 
-// The target of the record for the state, kind and symbol.
-fn target_of(t: &[u8], state: usize, kind: usize, symbol: usize) -> Found
+// The target of the record for the state, kind and symbol, if there is one.
+#[tactic(auto, using(crate::proofs::Targets::target_missing, crate::proofs::Targets::target_found))]
+fn target_of(t: &[u8], state: usize, kind: Kind, symbol: usize) -> Option<u16>
     requires { Ascends t.now }
-    ensures { found_in result ≡ target_of (table_records t.now) state kind symbol }
+    ensures { found_in result ≡ target_of (table_records t.now) state (kind_number kind) symbol }
 {
     let n = crate::records::record_count(t);
-    let at = crate::search::find(t, n, state, kind, symbol);
-    if n <= at {
-        return Found::Nothing;
-    }
-    Found::Target(crate::records::target(t, at) as u16)
+    let key = Key {
+        state,
+        kind: usize::from(kind),
+        symbol,
+    };
+    let at = crate::search::find(t, n, key)?;
+    Some(crate::records::target(t, at) as u16)
 }
 
-// What the state does at the token.
-pub fn action(t: &[u8], state: usize, token: usize) -> Act
+// What the state does at the token, if anything.
+#[tactic(auto, using(crate::proofs::Targets::acts_shift, crate::proofs::Targets::acts_reduce, crate::proofs::Targets::acts_not))]
+pub fn action(t: &[u8], state: usize, token: usize) -> Option<Act>
     requires { Ascends t.now }
     ensures { act_in result ≡ (table_in (table_records t.now)).act state token }
 {
-    if let Found::Target(to) = target_of(t, state, SHIFT, token) {
-        return Act::Shift(to);
+    if let Some(to) = target_of(t, state, Kind::Shift, token) {
+        return Some(Act::Shift(to));
     }
-    if let Found::Target(production) = target_of(t, state, REDUCE, token) {
-        return Act::Reduce(production);
-    }
-    Act::Nothing
+    let production = target_of(t, state, Kind::Reduce, token)?;
+    Some(Act::Reduce(production))
 }
 
-// Where the state goes over the nonterminal.
-pub fn goto(t: &[u8], state: usize, nonterminal: usize) -> Found
+// Where the state goes over the nonterminal, if anywhere.
+#[tactic(auto, using(crate::proofs::Targets::goes_to))]
+pub fn goto(t: &[u8], state: usize, nonterminal: usize) -> Option<u16>
     requires { Ascends t.now }
     ensures { found_in result ≡ (table_in (table_records t.now)).goto state nonterminal }
 {
-    target_of(t, state, GOTO, nonterminal)
+    target_of(t, state, Kind::Goto, nonterminal)
 }

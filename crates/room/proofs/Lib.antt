@@ -1,7 +1,5 @@
-pub mod Apart
+pub mod AreaReads
 pub mod Cells
 pub mod Clearing
 pub mod Lengths
-pub mod Same
-pub mod Views
 pub mod Whole

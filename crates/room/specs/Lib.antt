@@ -1,3 +1,5 @@
+pub mod AreaLaws
+pub mod AreaProofs
 pub mod Areas
 pub mod Bounds
 pub mod Slots

@@ -1,4 +1,6 @@
 // The work room: its areas, the slots of its token sets, and clearing it.
+// The room is a slice that the caller lends, and each function asks that it is long enough: a type with that for its invariant would ask more
+// of the callers of public functions than a slice does.
 #![tactic(auto)]
 
 ghost use Rattle.std.specs.Prelude.{◌≡◌};
@@ -17,8 +19,5 @@ pub fn clear(work: &mut [u64])
     requires { LongEnough work.old }
     ensures { work.new ≡ cleared limits work.old }
 {
-    let end = WORK;
-    for i in 0..end {
-        work[i] = 0;
-    }
+    work[..WORK].fill(0);
 }

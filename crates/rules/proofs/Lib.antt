@@ -1,3 +1,4 @@
+pub mod Answers
 pub mod Coding
 pub mod Examples
 pub mod Fuels

@@ -1,7 +1,7 @@
 -- What every call leaves in the rooms that it was lent: a refusal of the builder changes no byte of the table room, the work room is
 -- untouched after 1 and 2 and cleared after every other answer, and stack and list do not change before a run begins.
 use Prim.Native.Nat.{ℕ, ◌*◌, ◌%◌, ◌<◌, ◌≤◌}
-use mathlib.Core.Path.{◌≡◌, refl, ap, ◌∙◌}
+use mathlib.Core.Path.{◌≡◌, refl, sym, ap, ◌∙◌}
 use mathlib.Core.Bool.{Bool, true, false}
 use mathlib.Core.List.{List, [], ◌∷◌, map}
 use native.Mathlib.Omega.{arith}
@@ -9,6 +9,7 @@ use lib.ListN.{length, drop, length-append}
 use lib.Seq.{drop_at}
 use lib.Dec.{eqb, ltb}
 use borrow.Author.Tests.{lt-ltb, le-ltb, ltb-false}
+use Rattle.std.specs.Prelude.{Result, Ok, Err}
 use Rattle.base.specs.Pick.{pick}
 use Rattle.base.specs.Lists.{concat}
 use Rattle.rules.specs.Limits.{Limits}
@@ -20,18 +21,18 @@ use Rattle.rules.specs.Rooms.{cleared, overwritten}
 use Rattle.rules.specs.Build.{BuildResult, constructed, not_built, written, result_of, build_coded, build}
 use Rattle.rules.specs.Run.{RunResult, run}
 use Rattle.rules.specs.Drive.{DriveResult, first_malformed, first_no_token, not_driven, driven, drive_coded, drive}
-use Rattle.rules.specs.declared.GrammarAnswer.{GrammarAnswer}
-use Rattle.rules.specs.declared.GrammarAnswer.TheVariants.{Coded, Refused}
+use Rattle.rules.specs.declared.GrammarRefusal.{GrammarRefusal}
+use Rattle.rules.specs.declared.DriveRefusal.{DriveRefusal}
+use Rattle.rules.specs.Answers.{table_size}
 use Rattle.rules.specs.declared.BuildRefusal.{BuildRefusal}
+use Rattle.rules.specs.declared.TableSize.{TableSize}
 use Rattle.rules.specs.declared.BuildRefusal.TheVariants.{TableRoom}
-use Rattle.rules.specs.declared.BuildAnswer.TheVariants.{Built, NotBuilt}
 use Rattle.rules.specs.declared.RunAnswer.{RunAnswer}
-use Rattle.rules.specs.declared.DriveAnswer.{DriveAnswer}
-use Rattle.rules.specs.declared.DriveAnswer.TheVariants.{Ran}
+use Rattle.rules.proofs.Answers.{err≢ok, same_size}
 
 -- ---- the table room after a refusal
 abbrev KeepsTable : List ℕ → BuildResult → Type 0
-KeepsTable table r = (why : BuildRefusal) → r.answer ≡ NotBuilt why → r.table ≡ table
+KeepsTable table r = (why : BuildRefusal) → r.answer ≡ Err why → r.table ≡ table
 
 keeps_pick : (table : List ℕ) (b : Bool) (x y : BuildResult) → KeepsTable table x → KeepsTable table y → KeepsTable table (pick b x y)
 keeps_pick table true x y p q = p
@@ -45,20 +46,20 @@ keeps_written : (count : ℕ) (rs : List TableRecord) (table work : List ℕ) �
 unfolding written
 keeps_written count rs table work =
     keeps_pick table (ltb (length table) (8 * length rs)) _ _ (keeps_not_built _ table work)
-    (λ why e. absurd (let z : ◌≡◌ {A = ℕ} 0 1 = cc in omega arith))
+    (λ why e. absurd (err≢ok why _ (sym e)))
 
 keeps_result : (g : Grammar) (o : Outcome (List State)) (table work : List ℕ) → KeepsTable table (result_of g o table work)
 unfolding result_of
 keeps_result g (done states) table work = keeps_written (length states) (table_of g states) table work
 keeps_result g (refused why) table work = keeps_not_built why table work
 
-keeps_coded : (l : Limits) (mode : ℕ) (bytes : List ℕ) (a : GrammarAnswer) (table work : List ℕ) → KeepsTable table (build_coded l mode bytes a table work)
+keeps_coded : (l : Limits) (mode : ℕ) (bytes : List ℕ) (a : Result (Unit {0}) GrammarRefusal) (table work : List ℕ) → KeepsTable table (build_coded l mode bytes a table work)
 unfolding build_coded
-keeps_coded l mode bytes Coded table work = keeps_result (records bytes) (constructed l (records bytes) mode) table work
-keeps_coded l mode bytes (Refused why) table work = keeps_not_built _ table work
+keeps_coded l mode bytes (Ok tt) table work = keeps_result (records bytes) (constructed l (records bytes) mode) table work
+keeps_coded l mode bytes (Err why) table work = keeps_not_built _ table work
 
 pub refusal_keeps_table : (l : Limits) (mode : ℕ) (bytes table work : List ℕ) (why : BuildRefusal)
-    → (build l mode bytes table work).answer ≡ NotBuilt why → (build l mode bytes table work).table ≡ table
+    → (build l mode bytes table work).answer ≡ Err why → (build l mode bytes table work).table ≡ table
 unfolding build
 refusal_keeps_table l mode bytes table work =
     keeps_pick table (ltb 1 mode) _ _ (keeps_not_built _ table work)
@@ -77,7 +78,7 @@ records_length (r ∷ rs) = omega (arith, length-append (record_bytes r) (concat
 
 -- what a result has written, if it has built
 abbrev KeepsRest : List ℕ → BuildResult → Type 0
-KeepsRest table r = (states count : ℕ) → r.answer ≡ Built states count → (drop (8 * count) r.table ≡ drop (8 * count) table) × (8 * count ≤ length table)
+KeepsRest table r = (states count : ℕ) → r.answer ≡ Ok (table_size states count) → (drop (8 * count) r.table ≡ drop (8 * count) table) × (8 * count ≤ length table)
 
 rest_pick : (table : List ℕ) (b : Bool) (x y : BuildResult) → (b ≡ true → KeepsRest table x) → (b ≡ false → KeepsRest table y) → KeepsRest table (pick b x y)
 rest_pick table true x y p q = p refl
@@ -85,7 +86,7 @@ rest_pick table false x y p q = q refl
 
 rest_not_built : (why : BuildRefusal) (table work : List ℕ) → KeepsRest table (not_built why table work)
 unfolding not_built
-rest_not_built why table work states count e = absurd (let z : ◌≡◌ {A = ℕ} 0 1 = cc in omega arith)
+rest_not_built why table work states count e = absurd (err≢ok why _ e)
 
 rest_overwritten : (bytes table : List ℕ) (k : ℕ) → length bytes ≡ k → drop k (overwritten bytes table) ≡ drop k table
 unfolding overwritten
@@ -96,7 +97,7 @@ unfolding written
 rest_written n rs table work =
     rest_pick table (ltb (length table) (8 * length rs)) _ _ (λ _. rest_not_built _ table work)
     (λ fits states count e.
-    let q : length rs ≡ count = cc in
+    let q : length rs ≡ count = (same_size e).1 in
     (rw (← q) (rest_overwritten (table_bytes rs) table (8 * length rs) (records_length rs)), omega (arith, ltb-false (length table) (8 * length rs) fits)))
 
 rest_result : (g : Grammar) (o : Outcome (List State)) (table work : List ℕ) → KeepsRest table (result_of g o table work)
@@ -104,10 +105,10 @@ unfolding result_of
 rest_result g (done states) table work = rest_written (length states) (table_of g states) table work
 rest_result g (refused why) table work = rest_not_built why table work
 
-rest_coded : (l : Limits) (mode : ℕ) (bytes : List ℕ) (a : GrammarAnswer) (table work : List ℕ) → KeepsRest table (build_coded l mode bytes a table work)
+rest_coded : (l : Limits) (mode : ℕ) (bytes : List ℕ) (a : Result (Unit {0}) GrammarRefusal) (table work : List ℕ) → KeepsRest table (build_coded l mode bytes a table work)
 unfolding build_coded
-rest_coded l mode bytes Coded table work = rest_result (records bytes) (constructed l (records bytes) mode) table work
-rest_coded l mode bytes (Refused why) table work = rest_not_built _ table work
+rest_coded l mode bytes (Ok tt) table work = rest_result (records bytes) (constructed l (records bytes) mode) table work
+rest_coded l mode bytes (Err why) table work = rest_not_built _ table work
 
 pub built_keeps_rest : (l : Limits) (mode : ℕ) (bytes table work : List ℕ) → KeepsRest table (build l mode bytes table work)
 unfolding build
@@ -121,7 +122,7 @@ work_written : (n : ℕ) (rs : List TableRecord) (table work : List ℕ) → (wr
 unfolding written not_built
 work_written n rs table work = by_test (ltb (length table) (8 * length rs))
   where
-    by_test : (b : Bool) → (pick b (not_built (TableRoom (length rs)) table work) (record { answer = Built n (length rs); table = overwritten (table_bytes rs) table; work = work })).work ≡ work
+    by_test : (b : Bool) → (pick b (not_built (TableRoom (length rs)) table work) (record { answer = Ok (table_size n (length rs)); table = overwritten (table_bytes rs) table; work = work })).work ≡ work
     by_test true = refl
     by_test false = refl
 
@@ -130,10 +131,10 @@ unfolding result_of not_built
 work_result g (done states) table work = work_written (length states) (table_of g states) table work
 work_result g (refused why) table work = refl
 
-work_coded : (l : Limits) (mode : ℕ) (bytes : List ℕ) (a : GrammarAnswer) (table work : List ℕ) → (build_coded l mode bytes a table work).work ≡ work
+work_coded : (l : Limits) (mode : ℕ) (bytes : List ℕ) (a : Result (Unit {0}) GrammarRefusal) (table work : List ℕ) → (build_coded l mode bytes a table work).work ≡ work
 unfolding build_coded not_built
-work_coded l mode bytes Coded table work = work_result (records bytes) (constructed l (records bytes) mode) table work
-work_coded l mode bytes (Refused why) table work = refl
+work_coded l mode bytes (Ok tt) table work = work_result (records bytes) (constructed l (records bytes) mode) table work
+work_coded l mode bytes (Err why) table work = refl
 
 module _ (l : Limits) (mode : ℕ) (bytes table work : List ℕ) where
   pub work_untouched_after_1 : 1 < mode → (build l mode bytes table work).work ≡ work
@@ -150,13 +151,13 @@ module _ (l : Limits) (mode : ℕ) (bytes table work : List ℕ) where
 
 -- ---- stack and list before a run begins
 abbrev KeepsRooms : List ℕ → List ℕ → DriveResult → Type 0
-KeepsRooms stack list r = ((answer : RunAnswer) → r.answer ≡ Ran answer → ⊥) → (r.stack ≡ stack) × (r.list ≡ list)
+KeepsRooms stack list r = ((answer : RunAnswer) → r.answer ≡ Ok answer → ⊥) → (r.stack ≡ stack) × (r.list ≡ list)
 
 rooms_pick : (stack list : List ℕ) (b : Bool) (x y : DriveResult) → KeepsRooms stack list x → KeepsRooms stack list y → KeepsRooms stack list (pick b x y)
 rooms_pick stack list true x y p q = p
 rooms_pick stack list false x y p q = q
 
-rooms_not_driven : (answer : DriveAnswer) (stack list : List ℕ) → KeepsRooms stack list (not_driven answer stack list)
+rooms_not_driven : (answer : Result RunAnswer DriveRefusal) (stack list : List ℕ) → KeepsRooms stack list (not_driven answer stack list)
 unfolding not_driven
 rooms_not_driven answer stack list f = (refl, refl)
 
@@ -164,11 +165,11 @@ rooms_driven : (r : RunResult ℕ) (stack list : List ℕ) → KeepsRooms stack 
 unfolding driven
 rooms_driven r stack list f = absurd (f r.answer refl)
 
-rooms_coded : (l : Limits) (bytes : List ℕ) (a : GrammarAnswer) (table tokens : List ℕ) (limit : ℕ) (stack list : List ℕ)
+rooms_coded : (l : Limits) (bytes : List ℕ) (a : Result (Unit {0}) GrammarRefusal) (table tokens : List ℕ) (limit : ℕ) (stack list : List ℕ)
     → KeepsRooms stack list (drive_coded l bytes a table tokens limit stack list)
 unfolding drive_coded
-rooms_coded l bytes (Refused why) table tokens limit stack list = rooms_not_driven _ stack list
-rooms_coded l bytes Coded table tokens limit stack list =
+rooms_coded l bytes (Err why) table tokens limit stack list = rooms_not_driven _ stack list
+rooms_coded l bytes (Ok tt) table tokens limit stack list =
     let g : Grammar = records bytes in
     let rs : List TableRecord = table_records table in
     rooms_pick stack list (eqb (length table % 8) 0) _ _

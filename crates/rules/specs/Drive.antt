@@ -1,6 +1,6 @@
 -- The driver: the whole call, over grammar bytes, table bytes, tokens, the rooms and the step limit. Refusals 3 to 8 come first, then 15,
 -- then 16, then the run. Before the run begins neither stack nor list changes.
-use Rattle.std.specs.Prelude.{ℕ, ◌-◌, ◌%◌, Bool, ◌&&◌, ◌||◌, not, List, length, get_or, eqb, leb, ltb}
+use Rattle.std.specs.Prelude.{ℕ, ◌-◌, ◌%◌, Bool, ◌&&◌, ◌||◌, not, List, length, get_or, eqb, leb, ltb, Result, Ok, Err}
 use Rattle.base.specs.Pick.{pick}
 use Rattle.base.specs.Loops.{first_from}
 use Rattle.base.specs.Lists.{some_of}
@@ -9,13 +9,13 @@ use Rattle.rules.specs.Records.{Grammar, records}
 use Rattle.rules.specs.Grammar.{grammar_answer, production_count, terminal_count, nonterminal_count}
 use Rattle.rules.specs.Table.{TableRecord, table_record, table_records, is_for, table_in}
 use Rattle.rules.specs.Run.{RunResult, run}
-use Rattle.rules.specs.declared.GrammarAnswer.{GrammarAnswer}
-use Rattle.rules.specs.declared.GrammarAnswer.TheVariants.{Coded, Refused}
-use Rattle.rules.specs.declared.DriveAnswer.{DriveAnswer}
-use Rattle.rules.specs.declared.DriveAnswer.TheVariants.{NoGrammar, NoTable, NoToken, Ran}
+use Rattle.rules.specs.declared.GrammarRefusal.{GrammarRefusal}
+use Rattle.rules.specs.declared.DriveRefusal.{DriveRefusal}
+use Rattle.rules.specs.declared.RunAnswer.{RunAnswer}
+use Rattle.rules.specs.declared.DriveRefusal.TheVariants.{Grammar as NoGrammar, Table as NoTable, Token as NoToken}
 
 pub record DriveResult : Type 0 where
-  pub answer : DriveAnswer
+  pub answer : Result RunAnswer DriveRefusal
   pub stack : List ℕ
   pub list : List ℕ
 
@@ -66,22 +66,22 @@ unfolding first_from terminal_count
 first_no_token g tokens = first_from (λ i. leb (terminal_count g) (get_or tokens i 0)) (length tokens) 0
 
 -- ---- the call
-unfoldable pub not_driven : DriveAnswer → List ℕ → List ℕ → DriveResult
+unfoldable pub not_driven : Result RunAnswer DriveRefusal → List ℕ → List ℕ → DriveResult
 not_driven answer stack list = record { answer = answer; stack = stack; list = list }
 
 unfoldable pub driven : RunResult ℕ → DriveResult
-driven r = record { answer = Ran r.answer; stack = r.stack; list = r.list }
+driven r = record { answer = Ok r.answer; stack = r.stack; list = r.list }
 
-unfoldable pub drive_coded : Limits → List ℕ → GrammarAnswer → List ℕ → List ℕ → ℕ → List ℕ → List ℕ → DriveResult
+unfoldable pub drive_coded : Limits → List ℕ → Result (Unit {0}) GrammarRefusal → List ℕ → List ℕ → ℕ → List ℕ → List ℕ → DriveResult
 unfolding records table_records first_malformed first_no_token not_driven driven run table_in
-drive_coded l bytes (Refused why) table tokens limit stack list = not_driven (NoGrammar why) stack list
-drive_coded l bytes Coded table tokens limit stack list =
+drive_coded l bytes (Err why) table tokens limit stack list = not_driven (Err (NoGrammar why)) stack list
+drive_coded l bytes (Ok tt) table tokens limit stack list =
     let g : Grammar = records bytes in
     let rs : List TableRecord = table_records table in
     let ran : DriveResult = driven (run (table_in rs) g tokens limit stack list) in
-    let from16 : DriveResult = pick (ltb (first_no_token g tokens) (length tokens)) (not_driven (NoToken (first_no_token g tokens)) stack list) ran in
-    let from15 : DriveResult = pick (ltb (first_malformed l g rs) (length rs)) (not_driven (NoTable (first_malformed l g rs)) stack list) from16 in
-    pick (eqb (length table % 8) 0) from15 (not_driven (NoTable 0) stack list)
+    let from16 : DriveResult = pick (ltb (first_no_token g tokens) (length tokens)) (not_driven (Err (NoToken (first_no_token g tokens))) stack list) ran in
+    let from15 : DriveResult = pick (ltb (first_malformed l g rs) (length rs)) (not_driven (Err (NoTable (first_malformed l g rs))) stack list) from16 in
+    pick (eqb (length table % 8) 0) from15 (not_driven (Err (NoTable 0)) stack list)
 
 unfoldable pub drive : Limits → List ℕ → List ℕ → List ℕ → ℕ → List ℕ → List ℕ → DriveResult
 unfolding drive_coded grammar_answer

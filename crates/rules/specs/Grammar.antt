@@ -3,7 +3,7 @@
 -- the dot is i + 1, and the item of a production with dot 0 is its left-side record. The start item is 0.
 --
 -- 0: S→A, 1: A→a has records 0 1 2 3 for S A A a: item 2 is A→·a, item 3 is A→a·.
-use Rattle.std.specs.Prelude.{ℕ, ◌+◌, Bool, true, false, ◌&&◌, ◌||◌, not, List, [], ◌∷◌, map, length, drop, eqb, ltb}
+use Rattle.std.specs.Prelude.{ℕ, ◌+◌, Bool, true, false, ◌&&◌, ◌||◌, not, List, [], ◌∷◌, map, length, drop, eqb, ltb, Result, Ok, Err}
 use Rattle.base.specs.Pick.{pick}
 use Rattle.base.specs.Loops.{first_from, until}
 use Rattle.base.specs.Lists.{up_to, greatest, keep, each_of, fold_over}
@@ -12,8 +12,6 @@ use Rattle.rules.specs.Records.{Record, Grammar, at, records, bad_length, is_ter
 use Rattle.rules.specs.Tokens.{NumberSet, has, single, join}
 use Rattle.rules.specs.declared.GrammarRefusal.{GrammarRefusal}
 use Rattle.rules.specs.declared.GrammarRefusal.TheVariants.{Length, BadRecord, OutOfSequence, StartAgain, NoProduction, NoString}
-use Rattle.rules.specs.declared.GrammarAnswer.{GrammarAnswer}
-use Rattle.rules.specs.declared.GrammarAnswer.TheVariants.{Coded, Refused}
 
 pub data Symbol : Type 0 where
   nonterminal terminal : ℕ → Symbol
@@ -148,15 +146,15 @@ unfoldable pub fault_at : Limits → Grammar → ℕ → GrammarRefusal
 unfolding bad_record at
 fault_at l g i = pick (bad_record l (at g i)) (BadRecord i) (OutOfSequence i)
 
-unfoldable pub grammar_answer : Limits → List ℕ → GrammarAnswer
+unfoldable pub grammar_answer : Limits → List ℕ → Result (Unit {0}) GrammarRefusal
 unfolding records bad_length first_fault fault_at first_start at first_without first_barren nonterminal_count
 grammar_answer l bytes =
     let g : Grammar = records bytes in
     let m : ℕ = nonterminal_count g in
-    let six : GrammarAnswer = Refused (StartAgain (at g (first_start g)).production) in
-    let seven : GrammarAnswer = Refused (NoProduction (first_without g)) in
-    let eight : GrammarAnswer = pick (ltb (first_barren g) m) (Refused (NoString (first_barren g))) Coded in
-    let from_seven : GrammarAnswer = pick (ltb (first_without g) m) seven eight in
-    let from_six : GrammarAnswer = pick (ltb (first_start g) (length g)) six from_seven in
-    let from_four : GrammarAnswer = pick (ltb (first_fault l g) (length g)) (Refused (fault_at l g (first_fault l g))) from_six in
-    pick (bad_length l bytes) (Refused Length) from_four
+    let six : Result (Unit {0}) GrammarRefusal = Err (StartAgain (at g (first_start g)).production) in
+    let seven : Result (Unit {0}) GrammarRefusal = Err (NoProduction (first_without g)) in
+    let eight : Result (Unit {0}) GrammarRefusal = pick (ltb (first_barren g) m) (Err (NoString (first_barren g))) (Ok tt) in
+    let from_seven : Result (Unit {0}) GrammarRefusal = pick (ltb (first_without g) m) seven eight in
+    let from_six : Result (Unit {0}) GrammarRefusal = pick (ltb (first_start g) (length g)) six from_seven in
+    let from_four : Result (Unit {0}) GrammarRefusal = pick (ltb (first_fault l g) (length g)) (Err (fault_at l g (first_fault l g))) from_six in
+    pick (bad_length l bytes) (Err Length) from_four

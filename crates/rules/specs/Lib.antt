@@ -7,6 +7,7 @@ pub mod Grammar
 pub mod Lanes
 pub mod Limits
 pub mod Merge
+pub mod Modes
 pub mod Records
 pub mod Rooms
 pub mod Run

@@ -1,7 +1,7 @@
 -- The text that the programs print: an answer is a line, and behind the file program's "built" stands a line for each record.
 --
 -- S→A, A→a prints `built 3 states 4 records` and then `0 s 0 2`, `0 g 1 1`, `1 r 1 0`, `2 r 1 1`.
-use Rattle.std.specs.Prelude.{ℕ, zero, suc, ◌+◌, ◌*◌, ◌/◌, ◌%◌, List, [], ◌∷◌, ◌++◌, map, take, ltb}
+use Rattle.std.specs.Prelude.{ℕ, zero, suc, ◌+◌, ◌*◌, ◌/◌, ◌%◌, List, [], ◌∷◌, ◌++◌, map, take, ltb, Result, Ok, Err}
 use Prim.Native.Char.{code}
 use Prim.Native.String.{String, [] as ε, ◌∷◌ as ◌⊳◌}
 use Rattle.base.specs.Pick.{pick}
@@ -11,8 +11,8 @@ use Rattle.rules.specs.Limits.{limits}
 use Rattle.rules.specs.Answers.{Said, coded, built, refused, accepted, stopped, build_said}
 use Rattle.rules.specs.Table.{TableRecord, table_records}
 use Rattle.rules.specs.Build.{BuildResult, build}
-use Rattle.rules.specs.declared.BuildAnswer.{BuildAnswer}
-use Rattle.rules.specs.declared.BuildAnswer.TheVariants.{Built, NotBuilt}
+use Rattle.rules.specs.declared.BuildRefusal.{BuildRefusal}
+use Rattle.rules.specs.declared.TableSize.{TableSize}
 
 -- a text as bytes, its characters being ASCII
 abbrev pub Text : Type 0
@@ -67,10 +67,10 @@ unfolding line decimal kind_letter
 record_line r = line (decimal r.state ∷ kind_letter r.kind ∷ decimal r.symbol ∷ decimal r.target ∷ [])
 
 -- the records that were written at the front of the table room
-unfoldable pub record_lines : BuildAnswer → List ℕ → Text
+unfoldable pub record_lines : Result TableSize BuildRefusal → List ℕ → Text
 unfolding concat record_line table_records
-record_lines (Built states records) table = concat (map record_line (table_records (take (8 * records) table)))
-record_lines (NotBuilt why) table = []
+record_lines (Ok size) table = concat (map record_line (table_records (take (8 * size.records) table)))
+record_lines (Err why) table = []
 
 -- ---- what the builder gave
 unfoldable pub build_text : BuildResult → Text

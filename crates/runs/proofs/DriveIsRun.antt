@@ -7,6 +7,7 @@ use native.Mathlib.Omega.{arith}
 use lib.ListN.{length, get_or}
 use lib.Dec.{eqb, leb, ltb}
 use borrow.Author.Tests.{eq-eqb, le-ltb, lt-leb}
+use Rattle.std.specs.Prelude.{Result, Ok}
 use Rattle.base.specs.Among.{Among}
 use Rattle.base.proofs.Lists.{among_at}
 use Rattle.rules.specs.Limits.{Limits, limits}
@@ -16,8 +17,7 @@ use Rattle.rules.specs.States.{State}
 use Rattle.rules.specs.Table.{TableRecord, table_record, table_of, table_bytes, table_records, table_in}
 use Rattle.rules.specs.Run.{run}
 use Rattle.rules.specs.Drive.{first_malformed, first_no_token, driven, drive_coded, drive}
-use Rattle.rules.specs.declared.GrammarAnswer.{GrammarAnswer}
-use Rattle.rules.specs.declared.GrammarAnswer.TheVariants.{Coded}
+use Rattle.rules.specs.declared.GrammarRefusal.{GrammarRefusal}
 use Rattle.knuth.specs.Coded.{Checked}
 use Rattle.knuth.proofs.Coded.{coded_is_checked, coded_has_a_record}
 use Rattle.runs.specs.Good.{GoodStates}
@@ -32,7 +32,7 @@ pub limits_fit : LimitsFit limits
 unfolding limits
 limits_fit = record { states = omega arith; terminals = omega arith; nonterminals = omega arith; productions = omega arith }
 
-module _ (l : Limits) (fit : LimitsFit l) (bytes : List ℕ) (coded : grammar_answer l bytes ≡ Coded)
+module _ (l : Limits) (fit : LimitsFit l) (bytes : List ℕ) (coded : grammar_answer l bytes ≡ Ok tt)
     (states : List State) (good : GoodStates (records bytes) states) (few : length states ≤ l.states) where
   abbrev g : Grammar
   g = records bytes
@@ -83,4 +83,4 @@ module _ (l : Limits) (fit : LimitsFit l) (bytes : List ℕ) (coded : grammar_an
       let read : table_records (table_bytes rs) ≡ rs = records_read_back rs table_fits in
       let no15 : ltb (first_malformed l g rs) (length rs) ≡ false = le-ltb (first_malformed l g rs) (length rs) (omega (arith, well_formed l g fine a_record states good few)) in
       let no16 : ltb (first_no_token g w) (length w) ≡ false = le-ltb (first_no_token g w) (length w) (omega (arith, tokens_fine w below)) in
-      ap (λ (a : GrammarAnswer). drive_coded l bytes a (table_bytes rs) w limit stack list) coded ∙ rw (whole, read, no15, no16)
+      ap (λ (a : Result (Unit {0}) GrammarRefusal). drive_coded l bytes a (table_bytes rs) w limit stack list) coded ∙ rw (whole, read, no15, no16)

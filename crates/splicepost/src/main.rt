@@ -9,48 +9,45 @@
 ghost use Rattle.std.specs.Prelude.{◌*◌, ◌≤◌, length};
 ghost use Rattle.text.specs.Tables.{RecordsWithin};
 
-use rules::BuildAnswer;
+use answers::Said;
+use rules::{BuildRefusal, TableSize};
 use std::env::FillError;
 use std::io;
 use std::rt::Env;
 
-// What the words ask for; `unknown` if one of them is no word of the program.
-#[derive(Drop)]
+// What is written of a table: its text, or its bytes.
+#[derive(Clone, Copy)]
+enum Form {
+    Text,
+    Bytes,
+}
+
+// What the words ask for.
+#[derive(Clone, Copy)]
 struct Asked {
     mode: u64,
-    bytes: bool,
-    unknown: bool,
+    form: Form,
 }
 
-// What is asked for, with one more word.
-fn with_word(asked: Asked, word: &[u8]) -> Asked {
-    if word == b"canonical".as_slice() {
-        return Asked {
-            mode: 1,
-            bytes: asked.bytes,
-            unknown: asked.unknown,
-        };
-    }
-    if word == b"bytes".as_slice() {
-        return Asked {
-            mode: asked.mode,
-            bytes: true,
-            unknown: asked.unknown,
-        };
-    }
-    Asked {
-        mode: asked.mode,
-        bytes: asked.bytes,
-        unknown: true,
+impl Asked {
+    // What is asked for, with one more word; none if it is no word of the program.
+    fn with_word(self, word: &[u8]) -> Option<Asked> {
+        match word {
+            b"canonical" => Some(Asked { mode: 1, ..self }),
+            b"bytes" => Some(Asked {
+                form: Form::Bytes,
+                ..self
+            }),
+            _ => None,
+        }
     }
 }
 
-// What the words of the call ask for.
-fn read_words(rt: &impl Env) -> Asked {
+// What the words of the call ask for; none if one of them is no word of the program.
+fn read_words(rt: &impl Env) -> Option<Asked> {
     let mut asked = Asked {
         mode: 0,
-        bytes: false,
-        unknown: false,
+        form: Form::Text,
     };
     for i in 1..usize::MAX {
         let mut word = [0u8; 16];
@@ -59,31 +56,30 @@ fn read_words(rt: &impl Env) -> Asked {
             Err(FillError::TooLong) => 0,
             Err(FillError::NotPresent) => break,
         };
-        asked = with_word(asked, &word[..size]);
+        asked = asked.with_word(&word[..size])?;
     }
-    asked
+    Some(asked)
 }
 
 // Writes the bytes of the first `count` records of a table.
 fn write_records(to: &impl Print, table: &[u8], count: usize) -> io::Result<()>
     requires { 8 * count ≤ length table.now }
 {
-    let end = 8 * count;
-    to.write_all(&table[0..end])
+    to.write_all(&table[..8 * count])
 }
 
 // Writes the bytes of the table, or on standard error why there is none.
 fn write_bytes(
     to: &impl Print,
     err: &impl Print,
-    answer: BuildAnswer,
+    answer: Result<TableSize, BuildRefusal>,
     table: &[u8],
 ) -> io::Result<()>
     requires { RecordsWithin answer table.now }
 {
     match answer {
-        BuildAnswer::Built(states, records) => write_records(to, table, records),
-        BuildAnswer::NotBuilt(why) => text::write_said(err, answers::build_refusal_said(why)),
+        Ok(size) => write_records(to, table, size.records),
+        Err(why) => text::write_said(err, Said::from(why)),
     }
 }
 
@@ -92,30 +88,28 @@ fn build_asked(to: &impl Print, err: &impl Print, asked: Asked, grammar: &[u8]) 
     let mut table = [0u8; 65536];
     let mut work = [0u64; 8192];
     let answer = builder::build(asked.mode, grammar, &mut table, &mut work);
-    if asked.bytes {
-        return write_bytes(to, err, answer, &table);
+    match asked.form {
+        Form::Text => text::write_built(to, answer, &table),
+        Form::Bytes => write_bytes(to, err, answer, &table),
     }
-    text::write_built(to, answer, &table)
 }
 
 // Of more than 65,536 bytes these are read: they are too long for a grammar, and refused as the whole would be.
 fn main(rt: HostRuntime) -> io::Result<()> {
     let err = rt.stderr();
-    let asked = read_words(&rt);
-    if asked.unknown {
+    let Some(asked) = read_words(&rt) else {
         return err.write_all(
             b"usage: splicepost [canonical] [bytes] < GRAMMAR\nwhat a refusal's number means: docs/REFUSALS.md\n",
         );
-    }
+    };
     let mut input = [0u8; 65536];
-    let file = input::files::read(&mut rt.stdin(), &mut input);
-    if let Err(why) = file.readable {
-        text::fail(&err, b"standard input", why);
-        return Ok(());
-    }
-    let size = file.size;
-    if let Err(why) = build_asked(&rt, &err, asked, &input[..size]) {
-        text::fail(&err, b"standard output", why);
+    match input::files::read(&mut rt.stdin(), &mut input) {
+        Ok(file) => {
+            if let Err(why) = build_asked(&rt, &err, asked, &input[..file.size]) {
+                text::fail(&err, b"standard output", why);
+            }
+        }
+        Err(why) => text::fail(&err, b"standard input", why),
     }
     Ok(())
 }

@@ -2,18 +2,18 @@
 use Prim.Native.Nat.{ℕ}
 use mathlib.Core.Path.{◌≡◌, refl}
 use native.Mathlib.Omega.{arith}
-use Rattle.rules.specs.Answers.{grammar_refusal_said, build_refusal_said, build_said, run_end_said, drive_said}
+use Rattle.std.specs.Prelude.{Result, Ok, Err}
+use Rattle.rules.specs.Answers.{grammar_refusal_said, build_refusal_said, build_said, run_end_said, drive_said, table_size}
 use Rattle.rules.specs.declared.GrammarRefusal.{GrammarRefusal}
 use Rattle.rules.specs.declared.GrammarRefusal.TheVariants.{Length, BadRecord, OutOfSequence, StartAgain, NoProduction, NoString}
 use Rattle.rules.specs.declared.BuildRefusal.{BuildRefusal}
 use Rattle.rules.specs.declared.BuildRefusal.TheVariants.{Mode, WorkRoom, Grammar, States, Items, Actions, Conflicts, FinalCheck, TableRoom}
-use Rattle.rules.specs.declared.BuildAnswer.{BuildAnswer}
-use Rattle.rules.specs.declared.BuildAnswer.TheVariants.{Built, NotBuilt}
+use Rattle.rules.specs.declared.DriveRefusal.{DriveRefusal}
+use Rattle.rules.specs.declared.TableSize.{TableSize}
+use Rattle.rules.specs.declared.DriveRefusal.TheVariants.{Grammar as NoGrammar, Table as NoTable, Token as NoToken}
 use Rattle.rules.specs.declared.RunEnd.{RunEnd}
 use Rattle.rules.specs.declared.RunEnd.TheVariants.{Accepted, Rejected, Broken, ListFull, StackFull, StepLimit}
 use Rattle.rules.specs.declared.RunAnswer.{RunAnswer}
-use Rattle.rules.specs.declared.DriveAnswer.{DriveAnswer}
-use Rattle.rules.specs.declared.DriveAnswer.TheVariants.{NoGrammar, NoTable, NoToken, Ran}
 use Rattle.splicepost_c.specs.Numbers.{number}
 
 no_grammar : (why : GrammarRefusal) → number (grammar_refusal_said why) ≡ 0 → ⊥
@@ -37,10 +37,10 @@ not_built_lem (Conflicts count) e = omega (arith, e)
 not_built_lem (FinalCheck state) e = omega (arith, e)
 not_built_lem (TableRoom wanted) e = omega (arith, e)
 
-pub zero_is_built : (a : BuildAnswer) → number (build_said a) ≡ 0 → (states : ℕ) × (records : ℕ) × (a ≡ Built states records)
+pub zero_is_built : (a : Result TableSize BuildRefusal) → number (build_said a) ≡ 0 → (states : ℕ) × (records : ℕ) × (a ≡ Ok (table_size states records))
 unfolding build_said
-zero_is_built (Built states records) e = (states, records, refl)
-zero_is_built (NotBuilt why) e = absurd (not_built_lem why e)
+zero_is_built (Ok size) e = (size.states, size.records, refl)
+zero_is_built (Err why) e = absurd (not_built_lem why e)
 
 accepted : (end : RunEnd) (place steps listed : ℕ) → number (run_end_said end place steps listed) ≡ 0 → end ≡ Accepted
 unfolding number run_end_said
@@ -51,9 +51,9 @@ accepted ListFull place steps listed e = absurd (omega (arith, e))
 accepted StackFull place steps listed e = absurd (omega (arith, e))
 accepted StepLimit place steps listed e = absurd (omega (arith, e))
 
-pub zero_is_accepted : (a : DriveAnswer) → number (drive_said a) ≡ 0 → (run : RunAnswer) × (a ≡ Ran run) × (run.end ≡ Accepted)
+pub zero_is_accepted : (a : Result RunAnswer DriveRefusal) → number (drive_said a) ≡ 0 → (run : RunAnswer) × (a ≡ Ok run) × (run.end ≡ Accepted)
 unfolding drive_said number
-zero_is_accepted (NoGrammar why) e = absurd (no_grammar why e)
-zero_is_accepted (NoTable i) e = absurd (omega (arith, e))
-zero_is_accepted (NoToken i) e = absurd (omega (arith, e))
-zero_is_accepted (Ran run) e = (run, refl, accepted run.end run.place run.steps run.listed e)
+zero_is_accepted (Err (NoGrammar why)) e = absurd (no_grammar why e)
+zero_is_accepted (Err (NoTable i)) e = absurd (omega (arith, e))
+zero_is_accepted (Err (NoToken i)) e = absurd (omega (arith, e))
+zero_is_accepted (Ok run) e = (run, refl, accepted run.end run.place run.steps run.listed e)

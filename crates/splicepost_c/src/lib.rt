@@ -53,7 +53,7 @@ pub extern "C" fn splicepost_build(
     ensures { built_in result table.new work.new answer.new
         ≡ build_call mode grammar.now table.old work.old answer.old }
 {
-    let said = answers::build_said(builder::build(mode, grammar, table, work));
+    let said = Said::from(builder::build(mode, grammar, table, work));
     tell_said(said, answer)
 }
 
@@ -71,6 +71,6 @@ pub extern "C" fn splicepost_drive(
     ensures { driven_in result stack.new list.new answer.new
         ≡ drive_call grammar.now table.now tokens.now limit stack.old list.old answer.old }
 {
-    let said = answers::drive_said(driver::drive(grammar, table, tokens, limit, stack, list));
+    let said = Said::from(driver::drive(grammar, table, tokens, limit, stack, list));
     tell_said(said, answer)
 }

@@ -7,23 +7,19 @@
 // standard output that does not take all.
 #![tactic(auto)]
 
-ghost use Rattle.std.specs.Prelude.{◌≤◌, ◌≡◌, length};
+ghost use Rattle.std.specs.Prelude.{◌≤◌, IfOk, IfSome};
 ghost use Rattle.input.specs.Counts.{IsPrefixLen};
 ghost use Rattle.splicepost_drive.specs.Rooms.{WithinRooms};
 
 use answers::Said;
 use input::files::File;
-use input::numbers::Number;
+use input::rooms::{TABLE_ROOM, filled};
 use std::env::FillError;
 use std::rt::{Env, Files};
 use std::{fs, io};
 
 // Every longer grammar is refused by its length, whatever it holds.
 const GRAMMAR_ROOM: usize = 4104;
-
-// A table without fault has at most 128 times 127 records: at each state a goto for each of 64 nonterminals, and an action for each of
-// 62 terminals and Eof.
-const TABLE_ROOM: usize = 131072;
 
 // The rooms for tokens, stack and list take 6,200,000 bytes of the 8 MiB that a program's stack has by default. The stack holds all tokens.
 const TOKENS_ROOM: usize = 1000000;
@@ -38,34 +34,6 @@ const NAME_ROOM: usize = 4096;
 // The system's number of the error that a file's name is too long.
 const NAME_TOO_LONG: i32 = 36;
 
-// The room for a table.
-fn table_room() -> [u8; TABLE_ROOM]
-    ensures { 131072 ≡ length result }
-{
-    [0; TABLE_ROOM]
-}
-
-// The room for tokens.
-fn tokens_room() -> [u8; TOKENS_ROOM]
-    ensures { 1000000 ≡ length result }
-{
-    [0; TOKENS_ROOM]
-}
-
-// The room for the stack.
-fn stack_room() -> [u16; STACK_ROOM]
-    ensures { 1100000 ≡ length result }
-{
-    [0; STACK_ROOM]
-}
-
-// The room for the list.
-fn list_room() -> [u16; LIST_ROOM]
-    ensures { 1500000 ≡ length result }
-{
-    [0; LIST_ROOM]
-}
-
 // Opens the file with this name. The name is text: the library opens no other.
 fn open_read<R: Files>(rt: &R, name: &[u8]) -> io::Result<R::File> {
     match std::str::from_utf8(name) {
@@ -75,59 +43,49 @@ fn open_read<R: Files>(rt: &R, name: &[u8]) -> io::Result<R::File> {
 }
 
 // Reads the file with this name into the room.
-fn read_file(rt: &impl Files, err: &impl Print, name: &[u8], room: &mut [u8]) -> File
-    ensures { IsPrefixLen result.size room.new }
+fn read_named<R: Files>(rt: &R, name: &[u8], room: &mut [u8]) -> io::Result<File>
+    ensures { IfOk result (λ file. IsPrefixLen file.size room.new) }
 {
-    let mut from = match open_read(rt, name) {
-        Ok(from) => from,
-        Err(why) => {
-            text::fail(err, name, why);
-            return input::files::unread(room, why);
-        }
-    };
-    let file = input::files::read(&mut from, room);
-    if let Err(why) = file.readable {
-        text::fail(err, name, why);
-    }
-    file
+    let mut from = open_read(rt, name)?;
+    input::files::read(&mut from, room)
 }
 
 // Writes a line about a file that is longer than its room.
 fn write_too_long(err: &impl Print, name: &[u8], room: usize) -> io::Result<()> {
     err.write_all(name)?;
-    err.write_all(b": longer than ")?;
-    err.print(room)?;
-    err.write_all(b" bytes\n")
+    err.println(format_args!(": longer than {room} bytes"))
 }
 
-// Reads the file that argument i names into the room, which may be shorter than the file if `part` says so.
+// Reads the file that argument i names into the room, which may be shorter than the file if `part` says so, and counts its bytes. None
+// is read where standard error says why. A type in place of `part` would say no more: the grammar's room alone may be shorter.
 fn read_argument(
     rt: &(impl Env + Files),
     err: &impl Print,
     i: usize,
     part: bool,
     room: &mut [u8],
-) -> File
-    ensures { IsPrefixLen result.size room.new }
+) -> Option<usize>
+    ensures { IfSome result (λ size. IsPrefixLen size room.new) }
 {
     let mut name = [0u8; NAME_ROOM];
-    let length = match rt.arg(i, &mut name) {
-        Ok(length) => length,
-        Err(_) => {
-            let why = io::Error::from_raw_os_error(NAME_TOO_LONG);
-            text::fail(err, b"a file's name", why);
-            return input::files::unread(room, why);
-        }
+    let Ok(length) = rt.arg(i, &mut name) else {
+        let why = io::Error::from_raw_os_error(NAME_TOO_LONG);
+        text::fail(err, b"a file's name", why);
+        return None;
     };
-    let file = read_file(rt, err, &name[..length], room);
-    if part {
-        return file;
+    match read_named(rt, &name[..length], room) {
+        Ok(file) => {
+            if file.longer && !part {
+                let _ = write_too_long(err, &name[..length], room.len());
+                return None;
+            }
+            Some(file.size)
+        }
+        Err(why) => {
+            text::fail(err, &name[..length], why);
+            None
+        }
     }
-    if file.longer {
-        let _ = write_too_long(err, &name[..length], room.len());
-        return input::files::unread(room, io::Error::from(io::ErrorKind::FileTooLarge));
-    }
-    file
 }
 
 // Writes a line about the table file, which argument 2 names, if it has no bytes: it is driven, as every table is, but none is built so.
@@ -142,29 +100,21 @@ fn write_if_empty(rt: &impl Env, err: &impl Print, size: usize) {
     let _ = err.write_all(b": an empty file, as no table is\n");
 }
 
-// Writes a line with a production.
-fn write_production(to: &impl Print, production: u16) -> io::Result<()> {
-    to.print(production)?;
-    to.write_all(b"\n")
-}
-
-// Writes the first productions of the list, as many as are listed; an error if not all were written.
+// Writes the first productions of the list, as many as are listed, each on a line; an error if not all were written.
 fn write_productions(to: &impl Print, list: &[u16], listed: usize) -> io::Result<()> {
-    for i in 0..listed {
-        if i < list.len() {
-            write_production(to, list[i])?;
-        }
+    for production in list.iter().take(listed) {
+        to.println(production)?;
     }
     Ok(())
 }
 
 // Writes what the driver answers, and behind an acceptance the list that it left; an error if not all was written.
 fn write_answer(to: &impl Print, said: Said, list: &[u16]) -> io::Result<()> {
-    if let Said::Accepted(steps, listed) = said {
-        text::write_said(to, Said::Accepted(steps, listed))?;
-        return write_productions(to, list, listed);
+    text::write_said(to, said)?;
+    match said {
+        Said::Accepted(_, listed) => write_productions(to, list, listed),
+        _ => Ok(()),
     }
-    text::write_said(to, said)
 }
 
 // What a run may use: steps, and numbers of the stack and of the list.
@@ -187,7 +137,7 @@ fn drive_in(
     list: &mut [u16],
 ) {
     let answer = driver::drive(grammar, table, tokens, limit, stack, list);
-    if let Err(why) = write_answer(to, answers::drive_said(answer), list) {
+    if let Err(why) = write_answer(to, Said::from(answer), list) {
         text::fail(err, b"standard output", why);
     }
 }
@@ -203,10 +153,8 @@ fn drive_tokens(
 )
     requires { WithinRooms lent }
 {
-    let mut stack = stack_room();
-    let mut list = list_room();
-    let states = lent.stack;
-    let productions = lent.list;
+    let mut stack: [u16; STACK_ROOM] = filled(0);
+    let mut list: [u16; LIST_ROOM] = filled(0);
     drive_in(
         to,
         err,
@@ -214,8 +162,8 @@ fn drive_tokens(
         table,
         tokens,
         lent.limit,
-        &mut stack[0..states],
-        &mut list[0..productions],
+        &mut stack[..lent.stack],
+        &mut list[..lent.list],
     );
 }
 
@@ -229,10 +177,8 @@ fn with_table(
 )
     requires { WithinRooms lent }
 {
-    let mut room = tokens_room();
-    let file = read_argument(rt, err, 3, false, &mut room);
-    if file.readable.is_ok() {
-        let size = file.size;
+    let mut room: [u8; TOKENS_ROOM] = filled(0);
+    if let Some(size) = read_argument(rt, err, 3, false, &mut room) {
         drive_tokens(rt, err, grammar, table, &room[..size], lent);
     }
 }
@@ -241,10 +187,8 @@ fn with_table(
 fn with_grammar(rt: &(impl Env + Files + Print), err: &impl Print, grammar: &[u8], lent: Lent)
     requires { WithinRooms lent }
 {
-    let mut room = table_room();
-    let file = read_argument(rt, err, 2, false, &mut room);
-    if file.readable.is_ok() {
-        let size = file.size;
+    let mut room: [u8; TABLE_ROOM] = filled(0);
+    if let Some(size) = read_argument(rt, err, 2, false, &mut room) {
         write_if_empty(rt, err, size);
         with_table(rt, err, grammar, &room[..size], lent);
     }
@@ -255,58 +199,33 @@ fn with_lent(rt: &(impl Env + Files + Print), err: &impl Print, lent: Lent)
     requires { WithinRooms lent }
 {
     let mut room = [0u8; GRAMMAR_ROOM];
-    let file = read_argument(rt, err, 1, true, &mut room);
-    if file.readable.is_ok() {
-        let size = file.size;
+    if let Some(size) = read_argument(rt, err, 1, true, &mut room) {
         with_grammar(rt, err, &room[..size], lent);
     }
 }
 
-// What a word asks for: a number, and whether it can be given.
-#[derive(Drop)]
-struct Asked {
-    number: u64,
-    given: bool,
-}
-
 // Says that a word, which the usage names so, is no number that can be given.
-fn not_given(err: &impl Print, name: &[u8], most: u64) -> Asked
-    ensures { result.number ≤ most }
-{
-    let _ = err.write_all(name);
-    let _ = err.write_all(b": no number from 0 to ");
-    let _ = err.println(most);
-    Asked {
-        number: 0,
-        given: false,
-    }
+fn write_not_given(err: &impl Print, name: &[u8], most: u64) -> io::Result<()> {
+    err.write_all(name)?;
+    err.println(format_args!(": no number from 0 to {most}"))
 }
 
-// The number that argument i says, at most the most that can be given; the most if there is no such argument.
-fn read_number(rt: &impl Env, err: &impl Print, i: usize, name: &[u8], most: u64) -> Asked
-    ensures { result.number ≤ most }
+// The number that argument i says, at most the most that can be given; the most if there is no such argument. What is no such number is
+// said on standard error.
+fn read_number(rt: &impl Env, err: &impl Print, i: usize, name: &[u8], most: u64) -> Option<u64>
+    ensures { IfSome result (λ number. number ≤ most) }
 {
     let mut word = [0u8; 32];
     let size = match rt.arg(i, &mut word) {
         Ok(size) => size,
         Err(FillError::TooLong) => 0,
-        Err(FillError::NotPresent) => {
-            return Asked {
-                number: most,
-                given: true,
-            };
-        }
+        Err(FillError::NotPresent) => return Some(most),
     };
-    let Number::Is(number) = input::numbers::said(&word[..size]) else {
-        return not_given(err, name, most);
-    };
-    if most < number {
-        return not_given(err, name, most);
+    let number = input::numbers::said(&word[..size]).filter(|number| *number <= most);
+    if number.is_none() {
+        let _ = write_not_given(err, name, most);
     }
-    Asked {
-        number,
-        given: true,
-    }
+    number
 }
 
 // Writes how to call the program.
@@ -330,14 +249,14 @@ fn main(rt: HostRuntime) -> io::Result<()> {
     let limit = read_number(&rt, &err, 4, b"LIMIT", u64::MAX);
     let stack = read_number(&rt, &err, 5, b"STACK", STACK_ROOM as u64);
     let list = read_number(&rt, &err, 6, b"LIST", LIST_ROOM as u64);
-    if limit.given && stack.given && list.given {
+    if let (Some(limit), Some(stack), Some(list)) = (limit, stack, list) {
         with_lent(
             &rt,
             &err,
             Lent {
-                limit: limit.number,
-                stack: stack.number as usize,
-                list: list.number as usize,
+                limit,
+                stack: stack as usize,
+                list: list as usize,
             },
         );
     }

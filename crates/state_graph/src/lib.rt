@@ -16,11 +16,9 @@ ghost use Rattle.state_graph.specs.Links.{OnlyLinks, LinkedAt, EntryLinked, Stat
 
 use grammar::items::{at_end, before_nonterminal, before_terminal};
 use grammar::records::{is_terminal, symbol};
-use marks::links::{clear_links, link, links};
+use marks::{Links, clear, has, mark};
 use rules::StateIndex;
-use states::{end_entry, first_entry, item, next};
-
-const MAX_STATES: usize = 128;
+use states::{MAX_STATES, end_entry, first_entry, item, next};
 
 // No state links to any of the first states.
 fn clear_graph(count: usize, work: &mut [u64])
@@ -28,7 +26,7 @@ fn clear_graph(count: usize, work: &mut [u64])
     ensures { OnlyLinks (view work.old) (view work.new) }
 {
     for s in 0..count {
-        clear_links(work, StateIndex(s));
+        clear::<Links>(work, StateIndex(s));
     }
 }
 
@@ -44,7 +42,7 @@ fn link_entry(g: &[u8], p: StateIndex, k: usize, work: &mut [u64])
     if to.0 >= MAX_STATES {
         return;
     }
-    link(work, p, to);
+    mark::<Links>(work, to, p);
 }
 
 // The state p links to each state that one of its entries leads to.
@@ -71,27 +69,26 @@ pub fn link_states(g: &[u8], count: usize, work: &mut [u64])
 }
 
 // The symbol of record i stands directly behind the dot of item j.
+#[tactic(auto, unfolding(rules::specs::Grammar::symbol_of))]
 fn before_symbol(g: &[u8], i: usize, j: usize) -> bool
     requires { InRange i g.now × InRange j g.now }
     ensures { result ≡ is_before (records g.now) (symbol_at g.now i) j }
 {
     let x = symbol(g, i);
     if is_terminal(g, i) {
-        return before_terminal(g, x, j);
+        before_terminal(g, x, j)
+    } else {
+        before_nonterminal(g, x, j)
     }
-    before_nonterminal(g, x, j)
 }
 
 // The entry at place k leads to the state over the symbol of record i.
+#[tactic(auto, unfolding(crate::specs::Graph::leads_to))]
 fn leads_by(g: &[u8], work: &[u64], k: usize, state: StateIndex, i: usize) -> bool
     requires { LongEnough work.now × IsEntry k × InRange i g.now × ((entry_in (view work.now) k).item < length (records g.now)) }
     ensures { result ≡ leads_to (records g.now) state.0 (symbol_at g.now i) (entry_in (view work.now) k) }
 {
-    if next(work, k).0 != state.0 {
-        return false;
-    }
-    let j = item(work, k);
-    before_symbol(g, i, j)
+    next(work, k).0 == state.0 && before_symbol(g, i, item(work, k))
 }
 
 // The state p leads to the state over the symbol of record i; only a state that links to it can. state_graph.rs: predecessors
@@ -100,15 +97,6 @@ pub fn leads(g: &[u8], work: &[u64], p: StateIndex, state: StateIndex, i: usize)
     requires placed_at { PlacedAt (length (records g.now)) (view work.now) p.0 × LinkedAt g.now (view work.now) p.0 }
     ensures { result ≡ some_of (leads_to (records g.now) state.0 (symbol_at g.now i)) (state_in (view work.now) p.0) }
 {
-    if !links(work, p, state) {
-        return false;
-    }
-    let first = first_entry(work, p);
-    let end = end_entry(work, p);
-    for k in first..end {
-        if leads_by(g, work, k, state, i) {
-            return true;
-        }
-    }
-    false
+    has::<Links>(work, state, p)
+        && (first_entry(work, p)..end_entry(work, p)).any(|k| leads_by(g, work, k, state, i))
 }

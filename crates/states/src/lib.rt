@@ -9,17 +9,23 @@ ghost use Rattle.states.specs.StatesIn.{entry_in, first_of, put_next, append_ent
 ghost use Rattle.rules.specs.Limits.{max_entries};
 
 use lookahead::copy_set;
-use packed::{entry_item, entry_next, entry_of};
-use room::areas::{get_entry, get_first_entry, put_entry, put_first_entry};
+use packed::Entry;
+use room::areas::{Entries, FirstEntries, get, put};
 use room::slots::entry_slot;
 use rules::StateIndex;
+
+// How many states there may be.
+pub const MAX_STATES: usize = 128;
+
+// How many entries there may be in all.
+pub const MAX_ENTRIES: usize = 2048;
 
 // The place of the first entry of a state, or behind the last state the end of the entries.
 pub fn first_entry(work: &[u64], state: StateIndex) -> usize
     requires { LongEnough work.now × IsStateOrEnd state }
     ensures { result ≡ first_of (view work.now) state.0 }
 {
-    get_first_entry(work, state) as usize
+    get::<FirstEntries>(work, state) as usize
 }
 
 // The place behind the last entry of a state.
@@ -27,7 +33,7 @@ pub fn end_entry(work: &[u64], state: StateIndex) -> usize
     requires { LongEnough work.now × IsState state }
     ensures { result ≡ first_of (view work.now) (state.0 + 1) }
 {
-    get_first_entry(work, StateIndex(state.0 + 1)) as usize
+    get::<FirstEntries>(work, StateIndex(state.0 + 1)) as usize
 }
 
 // The item of the entry at place k.
@@ -35,7 +41,7 @@ pub fn item(work: &[u64], k: usize) -> usize
     requires { LongEnough work.now × IsEntry k }
     ensures { result ≡ (entry_in (view work.now) k).item }
 {
-    entry_item(get_entry(work, k))
+    Entry::unpack(get::<Entries>(work, k)).item
 }
 
 // The state that the symbol behind the dot of the entry at place k leads to.
@@ -43,7 +49,7 @@ pub fn next(work: &[u64], k: usize) -> StateIndex
     requires { LongEnough work.now × IsEntry k }
     ensures { result.0 ≡ (entry_in (view work.now) k).next }
 {
-    entry_next(get_entry(work, k))
+    Entry::unpack(get::<Entries>(work, k)).next
 }
 
 // The entry at place k leads to the state `next`.
@@ -52,7 +58,7 @@ pub fn put_next(work: &mut [u64], k: usize, next: StateIndex)
     ensures { view work.new ≡ put_next k next (view work.old) }
 {
     let item = item(work, k);
-    put_entry(work, k, entry_of(item, next));
+    put::<Entries>(work, k, Entry { item, next }.pack());
 }
 
 // An entry is written at place k: it leads nowhere yet, and its set is that of the slot `from`.
@@ -60,7 +66,11 @@ pub fn append_entry(work: &mut [u64], k: usize, item: usize, from: usize)
     requires { LongEnough work.old × IsEntry k × IsItem item × IsSlot from }
     ensures { view work.new ≡ append_entry k item from (view work.old) }
 {
-    put_entry(work, k, entry_of(item, StateIndex(0)));
+    let entry = Entry {
+        item,
+        next: StateIndex(0),
+    };
+    put::<Entries>(work, k, entry.pack());
     copy_set(work, entry_slot(k), from);
 }
 
@@ -69,5 +79,5 @@ pub fn end_state(work: &mut [u64], state: StateIndex, end: usize)
     requires { LongEnough work.old × IsState state × (end ≤ max_entries) }
     ensures { view work.new ≡ end_state state end (view work.old) }
 {
-    put_first_entry(work, StateIndex(state.0 + 1), end as u64);
+    put::<FirstEntries>(work, StateIndex(state.0 + 1), end as u64);
 }

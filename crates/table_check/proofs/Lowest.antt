@@ -1,14 +1,18 @@
 -- What the second pass goes by, up to record k, which has a fault; and that the faults of this crate are those of `rules`.
-use Prim.Native.Nat.{ℕ, zero, suc, ◌+◌, ◌-◌, ◌<◌, ◌≤◌}
-use mathlib.Core.Path.{◌≡◌, refl, sym, ◌∙◌}
-use mathlib.Core.Bool.{Bool, true, false, not, ◌||◌, ◌&&◌}
+use Prim.Native.Nat.{ℕ, zero, suc, ◌-◌}
+use mathlib.Core.Path.{◌≡◌, refl, sym, ap, ◌∙◌}
+use native.Mathlib.Nat.{sub-zero}
+use native.Mathlib.Decide.{dec_lt}
+use Rattle.std.specs.Prelude.{Option, unwrap_or}
+use Rattle.record.proofs.Below.{unwrap_below}
+use mathlib.Core.Bool.{Bool, true, false, not, ◌||◌, ◌&&◌, true≢false}
 use mathlib.Core.List.{List}
 use native.Mathlib.Omega.{arith}
 use lib.ListN.{length}
 use lib.Dec.{eqb, leb, ltb}
-use Rattle.base.specs.Loops.{first_from}
-use Rattle.base.proofs.ListLoops.{first_whole}
-use Rattle.base.proofs.Turns.{first_turn, first_at, first_found}
+use Rattle.base.specs.Loops.{first_from, place_below}
+use Rattle.base.proofs.ListLoops.{first_bound}
+use Rattle.base.proofs.Found.{before_first, at_first, first_is}
 use Rattle.rules.specs.Limits.{limits, max_states}
 use Rattle.rules.specs.Records.{Grammar}
 use Rattle.rules.specs.Grammar.{terminal_count, nonterminal_count, production_count}
@@ -18,30 +22,30 @@ use Rattle.grammar.specs.Asked.{InRange}
 use Rattle.record.proofs.Bytes.{length_records}
 use Rattle.table_check.specs.Faults.{bad_symbol_by, bad_target_by, bad_alone, out_of_order, misplaced, faulty, first_faulty}
 
--- what is left of the search at record i gives the same answer
-abbrev pub Left : ℕ → ℕ → ℕ → List TableRecord → ℕ → Type 0
-Left n m p rs i = first_from (faulty n m p rs) (length rs - i) i ≡ first_faulty n m p rs
+-- record k has a fault, and the first of those before it that has one is looked for
+module _ (n m p : ℕ) (bytes : List ℕ) (k : ℕ) (h : InRange k bytes) where
+  abbrev test : ℕ → Bool
+  test = faulty n m p (table_records bytes)
 
-pub lowest_starts : (n m p : ℕ) (rs : List TableRecord) → Left n m p rs 0
-unfolding first_faulty
-lowest_starts n m p rs = first_whole (faulty n m p rs) (length rs) (length rs) refl
+  abbrev first : ℕ
+  first = first_from test k 0
 
-module _ (n m p : ℕ) (bytes : List ℕ) (k : ℕ) (h : InRange k bytes) (i : ℕ) (so_far : Left n m p (table_records bytes) i) where
-  within : k < length (table_records bytes)
-  within = omega (arith, length_records bytes)
+  reached : test k ≡ true → test first ≡ true
+  reached bad = elim (dec_lt first k) [
+    | yes l ↦ at_first test k 0 (omega arith)
+    | no l ↦ ap test (omega (arith, first_bound test k 0)) ∙ bad
+  ]
 
-  module _ (b : Bool) (l : i < k) (e : b ≡ faulty n m p (table_records bytes) i) where
-    pub lowest_turn : b ≡ false → Left n m p (table_records bytes) (i + 1)
-    lowest_turn = first_turn (faulty n m p (table_records bytes)) (length (table_records bytes)) i _ b (omega (arith, within)) so_far e
+  same_first : test k ≡ true → first_from test (length (table_records bytes)) 0 ≡ first
+  same_first bad =
+      first_is test (length (table_records bytes)) first (omega (arith, first_bound test k 0, length_records bytes)) (λ l. reached bad)
+      (λ j l t. true≢false (sym t ∙ before_first test k 0 j (omega arith) (omega arith)))
 
-    pub lowest_at : b ≡ true → i ≡ first_faulty n m p (table_records bytes)
-    lowest_at = first_at (faulty n m p (table_records bytes)) (length (table_records bytes)) i _ b (omega (arith, within)) so_far e
-
-  pub lowest_ends : faulty n m p (table_records bytes) k ≡ true → i ≤ k → k ≤ i → k ≡ first_faulty n m p (table_records bytes)
-  lowest_ends bad l m' =
-      let same : i ≡ k = omega arith in
-      let left : Left n m p (table_records bytes) k = rw same at so_far in
-      sym (first_found (faulty n m p (table_records bytes)) (length (table_records bytes)) k _ within left bad)
+  pub lowest_found : (r : Option ℕ) → faulty n m p (table_records bytes) k ≡ true
+      → r ≡ place_below k (first_from (faulty n m p (table_records bytes)) (k - 0) 0) → unwrap_or r k ≡ first_faulty n m p (table_records bytes)
+  unfolding first_faulty
+  lowest_found r bad e =
+      ap (λ q. unwrap_or q k) e ∙ rw sub-zero (unwrap_below k (first_from test k 0) (omega (arith, first_bound test k 0))) ∙ sym (same_first bad)
 
 -- ---- the faults are those of `rules`
 regroup : (a b c d e f h : Bool) → ((a || (b || (c || (d || e)))) || f) || h ≡ (a || (b || (c || (d || (e || (f || h))))))
@@ -65,7 +69,7 @@ module _ (g : Grammar) (rs : List TableRecord) where
   first_same zero i = refl
   first_same (suc n) i = rw (same_fault i, first_same n (suc i))
 
-  pub malformed_first : (n m p r : ℕ) → n ≡ terminal_count g → m ≡ nonterminal_count g → p ≡ production_count g → r ≡ first_faulty n m p rs
-      → r ≡ first_malformed limits g rs
+  pub malformed_first : (n m p : ℕ) (r : Option ℕ) → n ≡ terminal_count g → m ≡ nonterminal_count g → p ≡ production_count g
+      → r ≡ place_below (length rs) (first_faulty n m p rs) → r ≡ place_below (length rs) (first_malformed limits g rs)
   unfolding first_faulty first_malformed
-  malformed_first n m p r e f h a = a ∙ rw (e, f, h) (first_same (length rs) 0)
+  malformed_first n m p r e f h a = a ∙ rw (e, f, h) (ap (place_below (length rs)) (first_same (length rs) 0))

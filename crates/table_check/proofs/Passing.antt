@@ -1,16 +1,20 @@
 -- What the two passes go by. A pass that has met no fault has ascending records behind it, so that a reduction's shift stands before it.
 use Prim.Native.Nat.{ℕ, zero, suc, ◌+◌, ◌-◌, ◌<◌, ◌≤◌}
-use mathlib.Core.Path.{◌≡◌, refl, sym, ◌∙◌}
+use mathlib.Core.Path.{◌≡◌, refl, sym, ap, ◌∙◌}
+use native.Mathlib.Nat.{sub-zero}
+use Rattle.std.specs.Prelude.{Some, None}
+use Rattle.record.specs.declared.keys.Key.{Key}
+use Rattle.record.specs.Keys.{key_at}
 use mathlib.Core.Bool.{Bool, true, false, ◌&&◌, ◌||◌, true≢false}
 use mathlib.Core.List.{List, [], ◌∷◌}
 use native.Mathlib.Omega.{arith}
 use native.Mathlib.Decide.{ℕ_discrete, dec_lt}
 use lib.ListN.{length}
 use lib.Dec.{eqb, ltb}
-use borrow.Author.Tests.{eqb-true, eq-eqb, ne_eqb, not-false, ltb-true, ltb-false}
+use borrow.Author.Tests.{eqb-true, eq-eqb, ne_eqb, not-false, ltb-true, ltb-false, lt-ltb, le-ltb}
 use Rattle.base.specs.Pick.{pick}
 use Rattle.base.specs.Lists.{some_of}
-use Rattle.base.specs.Loops.{first_from}
+use Rattle.base.specs.Loops.{first_from, any_from, place_below}
 use Rattle.base.proofs.Found.{before_first, at_first}
 use Rattle.base.proofs.Tests.{both_true, or_false}
 use Rattle.grammar.proofs.Sequence.{first_is}
@@ -37,30 +41,24 @@ module _ (test : TableRecord → Bool) where
   none_at [] none = refl
   none_at (r ∷ rs) none = rw (none 0 (omega arith)) (none_at rs (λ i h. none (suc i) (omega arith)))
 
--- ---- the scan for a shift of state s on token x: none of the first j records is one
-pub record Unshifted (rs : List TableRecord) (s x j : ℕ) : Type 0 where
-  pub none : (k : ℕ) → k < j → is_for s 0 x (table_at rs k) ≡ false
+-- ---- the search for a shift of a token
+any_behind : (f g : ℕ → Bool) (n i : ℕ) → ((j : ℕ) → f (suc j) ≡ g j) → any_from f n (suc i) ≡ any_from g n i
+unfolding any_from
+any_behind f g zero i h = refl
+any_behind f g (suc n) i h = rw (h i, any_behind f g n (suc i) h)
 
-pub scan_starts : (rs : List TableRecord) (s x : ℕ) → Unshifted rs s x 0
-scan_starts rs s x = record { none = λ k h. absurd (omega arith) }
+any_record : (test : TableRecord → Bool) (rs : List TableRecord) → any_from (λ j. test (table_at rs j)) (length rs) 0 ≡ some_of test rs
+unfolding any_from some_of table_at
+any_record test [] = refl
+any_record test (r ∷ rs) = rw (any_behind (λ j. test (table_at (r ∷ rs) j)) (λ j. test (table_at rs j)) (length rs) 0 (λ j. refl), any_record test rs)
 
-pub scan_turn : (rs : List TableRecord) (s x j : ℕ) (b : Bool) → Unshifted rs s x j → b ≡ is_for s 0 x (table_at rs j) → b ≡ false
-    → Unshifted rs s x (j + 1)
-scan_turn rs s x j b so_far e f = record {
-  none = λ k h. elim (ℕ_discrete k j) [ yes q ↦ rw q (sym e ∙ f) | no other ↦ so_far.none k (omega arith) ];
-}
-
-module _ (rs : List TableRecord) (i k s x n j : ℕ) (e : k ≡ (table_at rs i).kind) (reduction : k ≡ 2) (f : s ≡ (table_at rs i).state)
-    (g : x ≡ (table_at rs i).symbol) (l : n ≡ length rs) where
-  pub scan_finds : (b : Bool) → j < n → b ≡ is_for s 0 x (table_at rs j) → b ≡ true → true ≡ reduces_shifted rs (table_at rs i)
-  unfolding reduces_shifted
-  scan_finds b h t u =
-      rw (eq-eqb (table_at rs i).kind 2 (omega arith), ← f, ← g) (sym (some_at (is_for s 0 x) rs j (omega arith) (sym t ∙ u)))
-
-  pub scan_ends : Unshifted rs s x j → n ≤ j → false ≡ reduces_shifted rs (table_at rs i)
-  unfolding reduces_shifted
-  scan_ends so_far h =
-      rw (eq-eqb (table_at rs i).kind 2 (omega arith), ← f, ← g) (sym (none_at (is_for s 0 x) rs (λ q m. so_far.none q (omega arith))))
+-- record i, a reduction, is for `own`; b says whether one of the n records shifts its token
+pub any_shifts : (rs : List TableRecord) (i n : ℕ) (own : Key) (b : Bool) → own ≡ key_at rs i → own.kind ≡ 2 → n ≡ length rs
+    → b ≡ any_from (λ j. is_for own.state 0 own.symbol (table_at rs j)) (n - 0) 0 → b ≡ reduces_shifted rs (table_at rs i)
+unfolding reduces_shifted
+any_shifts rs i n own b e reduction l found =
+    let kind : (table_at rs i).kind ≡ 2 = ap (λ (k : Key). k.kind) (sym e) ∙ reduction in
+    found ∙ rw (sub-zero, l, e, eq-eqb (table_at rs i).kind 2 kind) (any_record (is_for (table_at rs i).state 0 (table_at rs i).symbol) rs)
 
 -- ---- a fault that the records up to i show is one
 module _ (rs : List TableRecord) (i : ℕ) (h : i < length rs) where
@@ -154,8 +152,25 @@ module _ (n m p : ℕ) (rs : List TableRecord) (i : ℕ) (so_far : Passed n m p 
 
 -- a pass over all records that meets no fault
 pub pass_ends : (n m p count i : ℕ) (rs : List TableRecord) → Passed n m p rs i → count ≡ length rs → i ≤ count → count ≤ i
-    → count ≡ first_faulty n m p rs
+    → None ≡ place_below (length rs) (first_faulty n m p rs)
 unfolding first_faulty
 pass_ends n m p count i rs so_far l a b =
-    l ∙ sym (first_is (faulty n m p rs) (length rs) (length rs) (omega arith) (λ h. absurd (omega arith))
-    (λ j h t. true≢false (sym t ∙ no_fault n m p rs i so_far (omega arith) j (omega arith))))
+    let none : first_from (faulty n m p rs) (length rs) 0 ≡ length rs =
+    first_is (faulty n m p rs) (length rs) (length rs) (omega arith) (λ h. absurd (omega arith))
+    (λ j h t. true≢false (sym t ∙ no_fault n m p rs i so_far (omega arith) j (omega arith))) in
+    rw (none, le-ltb (length rs) (length rs) (omega arith))
+
+-- a pass that meets one at record i
+pub pass_stops : (n m p : ℕ) (rs : List TableRecord) (i count : ℕ) (b : Bool) (lowest : ℕ) → count ≡ length rs → i < count
+    → b ≡ faulty_so_far n m p rs i → b ≡ true → lowest ≡ first_faulty n m p rs → Some lowest ≡ place_below (length rs) (first_faulty n m p rs)
+unfolding first_faulty
+pass_stops n m p rs i count b lowest l h e t f = rw (f, lt-ltb first (length rs) below)
+  where
+    first : ℕ
+    first = first_from (faulty n m p rs) (length rs) 0
+
+    below : first < length rs
+    below = elim (dec_lt i first) [
+      | yes q ↦ absurd (true≢false (sym (fault_shown n m p rs i count b l h e t) ∙ before_first (faulty n m p rs) (length rs) 0 i (omega arith) q))
+      | no q ↦ omega arith
+    ]

@@ -4,7 +4,6 @@ use mathlib.Core.Path.{◌≡◌, refl, sym, ap, ◌∙◌}
 use mathlib.Core.Bool.{Bool, true, false, not, ◌&&◌}
 use mathlib.Core.List.{List, [], ◌∷◌, ◌++◌, map}
 use native.Mathlib.Omega.{arith}
-use lib.ListN.{length}
 use borrow.Author.Tests.{not-true, not-false}
 use Rattle.base.specs.Pick.{pick}
 use Rattle.base.specs.Each.{each_from}
@@ -48,10 +47,6 @@ unfolding on_token reductions state_in in_turn on_entry
 entries_in_turn bytes work s t first end p q =
     rw (p, q) (kept_in_turn (λ e. table_record s 2 t (at (records bytes) e.item).production) (λ e. has e.set t) (λ e. at_end (records bytes) e.item) (entry_in (view work)) (first_of (view work) (s + 1) - first_of (view work) s) (first_of (view work) s))
 
-pub entries_counted : (bytes work : List ℕ) (s t first end : ℕ) → first ≡ first_of (view work) s → end ≡ first_of (view work) (s + 1)
-    → 0 + length (in_turn (on_entry bytes work s t) first end) ≡ length (on_token bytes work s t)
-entries_counted bytes work s t first end p q = omega (arith, ap length (entries_in_turn bytes work s t first end p q))
-
 pub entry_readable : (bytes work : List ℕ) (s first end k : ℕ) → Readable bytes work s → first ≡ first_of (view work) s → end ≡ first_of (view work) (s + 1) → first ≤ k → k < end → ReadableEntry bytes work k
 entry_readable bytes work s first end k readable p q h g = record {
   long = readable.long;
@@ -68,9 +63,6 @@ module _ (bytes work : List ℕ) (s t k i : ℕ) (c : Bool) (is : i ≡ (entry_i
   unfolding on_entry
   incomplete z = rw (ends_as, not-true c z)
 
-  pub incomplete_counts : not c ≡ true → 0 ≡ length (on_entry bytes work s t k)
-  incomplete_counts z = sym (ap length (incomplete z))
-
   module _ (slot : ℕ) (b : Bool) (complete : not c ≡ false) (place : slot ≡ entry_slot k) (contained : b ≡ has_token slot t (view work)) where
     held_as : has (entry_in (view work) k).set t ≡ b
     held_as = ap (λ (x : TokenSet). has x t) (set_of_lem (view work) k) ∙ sym (contained ∙ ap (λ (x : ℕ). has_token x t (view work)) place)
@@ -82,9 +74,3 @@ module _ (bytes work : List ℕ) (s t k i : ℕ) (c : Bool) (is : i ≡ (entry_i
     pub held : b ≡ true → on_entry bytes work s t k ≡ table_record s 2 t (at (records bytes) (entry_in (view work) k).item).production ∷ []
     unfolding on_entry
     held z = rw (ends_as, not-false c complete, held_as, z)
-
-    pub not_held_counts : b ≡ false → 0 ≡ length (on_entry bytes work s t k)
-    not_held_counts z = sym (ap length (not_held z))
-
-    pub held_counts : b ≡ true → 1 ≡ length (on_entry bytes work s t k)
-    held_counts z = sym (ap length (held z))

@@ -1,10 +1,10 @@
 -- The records of a state, and of all states, are those of `rules`.
-use Prim.Native.Nat.{ℕ, zero, suc, ◌+◌, ◌<◌, ◌≤◌}
+use Prim.Native.Nat.{ℕ, zero, suc, ◌<◌, ◌≤◌}
 use mathlib.Core.Path.{◌≡◌, refl, ap}
 use mathlib.Core.List.{List, ◌++◌, map}
 use native.Mathlib.Omega.{arith}
 use native.Mathlib.Nat.{sub-zero}
-use lib.ListN.{length, length-append}
+use lib.ListN.{length}
 use Rattle.base.specs.Each.{each_from}
 use Rattle.base.specs.Lists.{numbers_from, up_to, concat}
 use Rattle.rules.specs.Limits.{max_nonterminals}
@@ -38,9 +38,6 @@ module _ (bytes work : List ℕ) (s n m : ℕ) (terminals : n ≡ terminal_count
   unfolding of_state state_records
   state_parts = rw (shifts_are, gotos_are, reductions_are)
 
-  pub state_counted : (a b c : ℕ) → a ≡ length (shifts_of bytes work s n) → b ≡ length (gotos_of bytes work s m) → c ≡ length (reductions_of bytes work s n) → a + b + c ≡ length (of_state bytes work s)
-  state_counted a b c p q r = omega (arith, ap length state_parts, length-append (shifts_of bytes work s n) (gotos_of bytes work s m ++ reductions_of bytes work s n), length-append (gotos_of bytes work s m) (reductions_of bytes work s n))
-
 -- ---- all states
 module _ (bytes work : List ℕ) (count : ℕ) where
   states_from_lem : (n i : ℕ) → records_from (records bytes) i (each_from (state_in (view work)) i n) ≡ concat (map (of_state bytes work) (numbers_from i n))
@@ -51,9 +48,6 @@ module _ (bytes work : List ℕ) (count : ℕ) where
   pub table_in_turn : table_of (records bytes) (states_in (view work) count) ≡ in_turn (of_state bytes work) 0 count
   unfolding table_of states_in in_turn
   table_in_turn = rw sub-zero (states_from_lem count 0)
-
-  pub table_counted : 0 + length (in_turn (of_state bytes work) 0 count) ≡ length (table_of (records bytes) (states_in (view work) count))
-  table_counted = omega (arith, ap length table_in_turn)
 
   pub state_readable : (s : ℕ) → LongEnough work → Placed (length (records bytes)) count (view work) → s < count → Readable bytes work s
   state_readable s long placed h = record { long = long; few = omega (arith, placed.few); placed = placed.each s h }

@@ -1,3 +1,5 @@
 pub mod Asked
 pub mod Records
+pub mod Sides
+pub mod Sinks
 pub mod Targets

@@ -17,11 +17,7 @@ unfoldable pub in_turn : (ℕ → List TableRecord) → ℕ → ℕ → List Tab
 unfolding concat numbers_from
 in_turn f i n = concat (map f (numbers_from i (n - i)))
 
--- the kind of a record: 0 shift, 1 goto, 2 reduce
-abbrev pub IsKind : ℕ → Type 0
-IsKind kind = kind < 3
-
--- that of a record over a symbol of a kind, 0 nonterminal and 1 terminal: a terminal is shifted
+-- the kind of a record over a symbol of a kind, 0 nonterminal and 1 terminal: a terminal is shifted, and a nonterminal leads to a goto
 unfoldable pub kind_over : ℕ → ℕ
 kind_over kind = pick (eqb kind 1) 0 1
 

@@ -2,4 +2,6 @@
 #![tactic(auto)]
 
 pub mod count;
+pub mod sinks;
 pub mod transitions;
+pub mod walk;

@@ -1,5 +1,5 @@
-// Where the symbols of a kind lead from a state, by one walk over its entries. A symbol is its kind, 0 nonterminal and 1 terminal, and its
-// number. `targets` has for each symbol 0 if the state has no transition over it, else one more than the state it leads to.
+// Where the symbols of a kind lead from a state, by one walk over its entries. `targets` has for each symbol the state that it leads to, if
+// the state has a transition over it.
 ghost use Rattle.std.specs.Prelude.{◌≡◌, false, ◌+◌};
 ghost use Rattle.rules.specs.Records.{at, records};
 ghost use Rattle.rules.specs.Grammar.{at_end};
@@ -8,15 +8,37 @@ ghost use Rattle.room.specs.Areas.{view};
 ghost use Rattle.room.specs.Bounds.{LongEnough, IsEntry};
 ghost use Rattle.states.specs.StatesIn.{entry_in};
 ghost use Rattle.table_counts.specs.Asked.{Readable, ReadableEntry};
+ghost use Rattle.lr.specs.Kernels.{symbol_by};
+ghost use Rattle.grammar.specs.Symbols.{symbol_named};
+ghost use Rattle.table_counts.specs.Sides.{side_number};
 ghost use Rattle.table_counts.specs.Targets.{IsSymbol, HasAll, NoTargets, EntryGathered, Gathered};
 
 use grammar::items::{at_end, symbol_behind};
+use grammar::symbols::Symbol;
 use lr::kernels::before;
 use rules::StateIndex;
 use states::{end_entry, first_entry, item, next};
 
 // How many symbols of a kind there can be.
 pub const SYMBOLS: usize = 64;
+
+// The symbols of one kind.
+#[derive(Clone, Copy, PartialEq, Eq)]
+pub enum Side {
+    Nonterminals,
+    Terminals,
+}
+
+// Symbol x of a side.
+#[tactic(auto, unfolding(lr::specs::Kernels::symbol_by))]
+fn symbol_of(side: Side, x: usize) -> Symbol
+    ensures { symbol_named result ≡ symbol_by (side_number side) x }
+{
+    match side {
+        Side::Nonterminals => Symbol::Nonterminal(x),
+        Side::Terminals => Symbol::Terminal(x),
+    }
+}
 
 // The symbol behind the dot of item i.
 fn own_symbol(g: &[u8], i: usize) -> usize
@@ -26,42 +48,45 @@ fn own_symbol(g: &[u8], i: usize) -> usize
     symbol_behind(g, i)
 }
 
-// One more than the state that the entry at place k leads to.
-fn own_target(work: &[u64], k: usize) -> u64
-    requires { LongEnough work.now × IsEntry k }
-    ensures { result ≡ (entry_in (view work.now) k).next + 1 }
-{
-    let to = next(work, k);
-    (to.0 + 1) as u64
-}
-
-// The entry at place k tells where the symbol behind its dot leads, if it is of the kind and no entry before it has told.
-fn gather_entry(g: &[u8], kind: usize, k: usize, work: &[u64], targets: &mut [u64; SYMBOLS])
+// The entry at place k tells where the symbol behind its dot leads, if it is of the side and no entry before it has told.
+fn gather_entry(
+    g: &[u8],
+    side: Side,
+    k: usize,
+    work: &[u64],
+    targets: &mut [Option<StateIndex>; SYMBOLS],
+)
     requires { ReadableEntry g.now work.now k × Faultless g.now × HasAll targets.old }
-    ensures { EntryGathered g.now work.now kind k targets.old targets.new }
+    ensures { EntryGathered g.now work.now (side_number side) k targets.old targets.new }
 {
     let i = item(work, k);
     if at_end(g, i) {
         return;
     }
     let x = own_symbol(g, i);
-    if !before(g, kind, x, i) {
+    if !before(g, symbol_of(side, x), i) {
         return;
     }
-    if targets[x] != 0 {
+    if targets[x].is_some() {
         return;
     }
-    targets[x] = own_target(work, k);
+    targets[x] = Some(next(work, k));
 }
 
-// Where each symbol of the kind leads from the state.
-pub fn gather(g: &[u8], kind: usize, state: StateIndex, work: &[u64], targets: &mut [u64; SYMBOLS])
+// Where each symbol of the side leads from the state.
+pub fn gather(
+    g: &[u8],
+    side: Side,
+    state: StateIndex,
+    work: &[u64],
+    targets: &mut [Option<StateIndex>; SYMBOLS],
+)
     requires { Readable g.now work.now state.0 × Faultless g.now × NoTargets targets.old }
-    ensures { Gathered g.now work.now state.0 kind targets.new }
+    ensures { Gathered g.now work.now state.0 (side_number side) targets.new }
 {
     let first = first_entry(work, state);
     let end = end_entry(work, state);
     for k in first..end {
-        gather_entry(g, kind, k, work, targets);
+        gather_entry(g, side, k, work, targets);
     }
 }

@@ -1,5 +1,5 @@
--- Records written into the table room from a place on.
-use Rattle.std.specs.Prelude.{ℕ, ◌+◌, ◌*◌, ◌≤◌, ◌≡◌, List, ◌++◌, length, take, drop}
+-- Records written into the table room from its front on, each at the bytes of its number.
+use Rattle.std.specs.Prelude.{ℕ, ◌*◌, ◌≤◌, List, ◌++◌, length, take, drop}
 use Rattle.rules.specs.Table.{TableRecord, table_bytes}
 use Rattle.rules.specs.Rooms.{overwritten}
 
@@ -8,11 +8,9 @@ unfoldable pub written_at : ℕ → List ℕ → List ℕ → List ℕ
 unfolding overwritten
 written_at at bytes room = take at room ++ overwritten bytes (drop at room)
 
--- there is room for the records
-abbrev pub Fits : List TableRecord → ℕ → List ℕ → Type 0
-Fits rs at table = at + 8 * length rs ≤ length table
+-- the room after the records were written behind `at` others, and that it has the bytes of so many
+abbrev pub wrote : ℕ → List TableRecord → List ℕ → List ℕ
+wrote at rs room = written_at (8 * at) (table_bytes rs) room
 
--- they are written, and `end` is the place behind them
-pub record Wrote (rs : List TableRecord) (at : ℕ) (table after : List ℕ) (end : ℕ) : Type 0 where
-  pub place : end ≡ at + 8 * length rs
-  pub bytes : after ≡ written_at at (table_bytes rs) table
+abbrev pub fits : ℕ → List ℕ → Type 0
+fits n room = 8 * n ≤ length room

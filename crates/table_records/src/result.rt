@@ -10,7 +10,7 @@ ghost use Rattle.table_records.specs.Result.{TableGiven};
 
 use super::write::write_table;
 use grammar::records::RECORD;
-use rules::{BuildAnswer, BuildRefusal};
+use rules::{BuildRefusal, TableSize};
 use table_counts::count::count_records;
 
 // The records of all states written into the table room; if they do not fit, 14 with the records wanted, and no byte is touched.
@@ -21,15 +21,18 @@ pub fn write_states(
     count: usize,
     work: &[u64],
     table: &mut [u8],
-) -> BuildAnswer
+) -> Result<TableSize, BuildRefusal>
     requires faultless { Faultless g.now × (n ≡ terminal_count (records g.now)) × (m ≡ nonterminal_count (records g.now)) }
     requires long_enough { LongEnough work.now × Placed (length (records g.now)) count (view work.now) }
     ensures { TableGiven g.now work.now count table.old table.new result }
 {
     let wanted = count_records(g, n, m, count, work);
     if table.len() < RECORD * wanted {
-        return BuildAnswer::NotBuilt(BuildRefusal::TableRoom(wanted));
+        return Err(BuildRefusal::TableRoom(wanted));
     }
     write_table(g, n, m, count, work, table);
-    BuildAnswer::Built(count, wanted)
+    Ok(TableSize {
+        states: count,
+        records: wanted,
+    })
 }

@@ -8,7 +8,9 @@ use native.Mathlib.Decide.{ℕ_discrete, dec_le}
 use lib.ListN.{length}
 use lib.Dec.{ltb}
 use borrow.Author.Tests.{lt-ltb, le-ltb, ltb-true}
+use Rattle.std.specs.Prelude.{Option, Some, None}
 use Rattle.base.specs.Lists.{place_of}
+use Rattle.base.specs.Loops.{place_below}
 use Rattle.base.specs.Pick.{pick}
 use Rattle.base.proofs.Each.{each_at, each_same}
 use Rattle.rules.specs.Limits.{max_entries, work_size}
@@ -25,21 +27,28 @@ use Rattle.states.specs.StatesIn.{entry_in, first_of, PlaceOf}
 use Rattle.states.proofs.Changes.{slot_there, slot_elsewhere}
 use Rattle.lane_table.specs.Actions.{actions_in}
 use Rattle.takings.specs.Takes.{column_at, taken_at, Taken}
-use Rattle.takings.proofs.Places.{actions_length}
+use Rattle.takings.proofs.Places.{actions_length, below_some, below_none}
 
 -- ---- one entry
-module _ (v : Room) (width at k i c : ℕ) (item : i ≡ (entry_in v k).item) (found : c ≡ place_of (is_reduce i) (actions_in v width)) where
-  column_is : column_at v width k ≡ c
+module _ (v : Room) (width at k i : ℕ) (item : i ≡ (entry_in v k).item) (r : Option ℕ) (found : r ≡ place_below width (place_of (is_reduce i) (actions_in v width))) where
+  column_found : r ≡ place_below width (column_at v width k)
   unfolding column_at
-  column_is = rw (← item) (sym found)
+  column_found = rw (← item) found
 
-  pub take_none : width ≤ c → v ≡ taken_at width at k v
+  pub take_none : r ≡ None → v ≡ taken_at width at k v
   unfolding taken_at
-  take_none h = rw (column_is, le-ltb c width h)
+  take_none e = rw (le-ltb (column_at v width k) width (below_none width (column_at v width k) (sym column_found ∙ e)))
 
-  pub take_one : (q : Room) (slot : ℕ) → c < width → slot ≡ entry_slot k → q ≡ put_set slot (set_at v (at + c)) v → q ≡ taken_at width at k v
-  unfolding taken_at
-  take_one q slot h is put = rw (column_is, lt-ltb c width h, ← is) put
+  module _ (c : ℕ) (is : r ≡ Some c) where
+    there : (column_at v width k ≡ c) × (column_at v width k < width)
+    there = below_some width (column_at v width k) c (sym column_found ∙ is)
+
+    column_low : c < width
+    column_low = omega (arith, there.0, there.1)
+
+    pub take_one : (q : Room) (slot : ℕ) → slot ≡ entry_slot k → q ≡ put_set slot (set_at v (at + c)) v → q ≡ taken_at width at k v
+    unfolding taken_at
+    take_one q slot at-k put = rw (there.0, lt-ltb c width column_low, ← at-k) put
 
 module _ (width at k : ℕ) (v : Room) where
   abbrev put : Room

@@ -1,8 +1,8 @@
 -- What the text of a table asks of the table's room.
-use Rattle.std.specs.Prelude.{ℕ, ◌*◌, ◌≤◌, ◌≡◌, List, length}
-use Rattle.rules.specs.declared.BuildAnswer.{BuildAnswer}
-use Rattle.rules.specs.declared.BuildAnswer.TheVariants.{Built}
+use Rattle.std.specs.Prelude.{ℕ, ◌*◌, ◌≤◌, ◌≡◌, List, length, Result, Ok}
+use Rattle.rules.specs.declared.BuildRefusal.{BuildRefusal}
+use Rattle.rules.specs.declared.TableSize.{TableSize}
 
 -- if the answer is a built table, its records lie within the room
-abbrev pub RecordsWithin : BuildAnswer → List ℕ → Type 0
-RecordsWithin answer table = (states count : ℕ) → answer ≡ Built states count → 8 * count ≤ length table
+abbrev pub RecordsWithin : Result TableSize BuildRefusal → List ℕ → Type 0
+RecordsWithin answer table = (size : TableSize) → answer ≡ Ok size → 8 * size.records ≤ length table

@@ -7,73 +7,32 @@ ghost use Rattle.grammar.specs.Asked.{InRange};
 ghost use Rattle.text.specs.Tables.{RecordsWithin};
 
 use answers::Said;
-use rules::BuildAnswer;
+use rules::{BuildRefusal, TableSize};
 use std::io;
-
-// Writes a word and two numbers behind it.
-fn write_numbers(to: &impl Print, word: &[u8], a: u64, b: u64) -> io::Result<()> {
-    to.write_all(word)?;
-    to.write_all(b" ")?;
-    to.print(a)?;
-    to.write_all(b" ")?;
-    to.print(b)
-}
-
-// Writes the counts of a built table.
-fn write_counts(to: &impl Print, states: u64, records: u64) -> io::Result<()> {
-    to.write_all(b"built ")?;
-    to.print(states)?;
-    to.write_all(b" states ")?;
-    to.print(records)?;
-    to.write_all(b" records")
-}
-
-// Writes the words of an answer.
-pub fn write_words(to: &impl Print, said: Said) -> io::Result<()> {
-    match said {
-        Said::Coded => to.write_all(b"coded"),
-        Said::Built(states, records) => write_counts(to, states as u64, records as u64),
-        Said::Refused(number, place) => write_numbers(to, b"refused", number, place as u64),
-        Said::Accepted(steps, listed) => write_numbers(
-            to,
-            b"accepted",
-            steps as u64,
-            listed as u64,
-        ),
-        Said::Stopped(number, place, steps, listed) => {
-            write_numbers(to, b"refused", number, place as u64)?;
-            write_numbers(to, b"", steps as u64, listed as u64)
-        }
-    }
-}
 
 // Writes the line of an answer.
 pub fn write_said(to: &impl Print, said: Said) -> io::Result<()> {
-    write_words(to, said)?;
-    to.write_all(b"\n")
+    to.println(said)
 }
 
-// Writes the letter of a record's kind, with a blank on both sides.
-fn write_kind(to: &impl Print, kind: usize) -> io::Result<()> {
-    if kind == record::records::SHIFT {
-        return to.write_all(b" s ");
+// The letter of a record's kind, which is a number here: nobody has checked the byte.
+fn kind_letter(kind: usize) -> char {
+    match kind {
+        record::records::SHIFT => 's',
+        record::records::GOTO => 'g',
+        _ => 'r',
     }
-    if kind == record::records::GOTO {
-        return to.write_all(b" g ");
-    }
-    to.write_all(b" r ")
 }
 
 // Writes the line of record i of a table.
 fn write_record(to: &impl Print, table: &[u8], i: usize) -> io::Result<()>
     requires { InRange i table.now }
 {
-    to.print(record::records::state(table, i))?;
-    write_kind(to, record::records::kind(table, i))?;
-    to.print(record::records::symbol(table, i))?;
-    to.write_all(b" ")?;
-    to.print(record::records::target(table, i))?;
-    to.write_all(b"\n")
+    let state = record::records::state(table, i);
+    let kind = kind_letter(record::records::kind(table, i));
+    let symbol = record::records::symbol(table, i);
+    let target = record::records::target(table, i);
+    to.println(format_args!("{state} {kind} {symbol} {target}"))
 }
 
 // Writes the lines of the first `count` records of a table.
@@ -87,13 +46,17 @@ pub fn write_records(to: &impl Print, table: &[u8], count: usize) -> io::Result<
 }
 
 // Writes the answer of the builder, and behind that of a built table its records.
-pub fn write_built(to: &impl Print, answer: BuildAnswer, table: &[u8]) -> io::Result<()>
+pub fn write_built(
+    to: &impl Print,
+    answer: Result<TableSize, BuildRefusal>,
+    table: &[u8],
+) -> io::Result<()>
     requires { RecordsWithin answer table.now }
 {
-    write_said(to, answers::build_said(answer))?;
+    write_said(to, Said::from(answer))?;
     match answer {
-        BuildAnswer::Built(states, records) => write_records(to, table, records),
-        BuildAnswer::NotBuilt(why) => Ok(()),
+        Ok(size) => write_records(to, table, size.records),
+        Err(why) => Ok(()),
     }
 }
 

@@ -10,9 +10,12 @@ use borrow.Author.Tests.{lt-ltb, le-ltb}
 use Rattle.base.specs.Pick.{pick}
 use Rattle.base.specs.Each.{each_from}
 use Rattle.base.specs.Lists.{is_empty}
+use Rattle.std.specs.Prelude.{Option, Some, None, Result, Ok, Err}
+use Rattle.std.specs.Option.{ok_or}
 use Rattle.rules.specs.Limits.{limits, max_columns}
 use Rattle.rules.specs.Records.{Grammar, records}
 use Rattle.rules.specs.First.{Sets, first_sets}
+use Rattle.rules.specs.declared.BuildRefusal.{BuildRefusal}
 use Rattle.rules.specs.States.{Entry, State, Outcome, done, refused}
 use Rattle.rules.specs.Lanes.{Action, actions_at, lane_table}
 use Rattle.rules.specs.Merge.{resolve_by, resolve}
@@ -28,15 +31,20 @@ use Rattle.states.proofs.States.{state_at, entry_same}
 use Rattle.lane.specs.declared.Lanes.{Lanes}
 use Rattle.lane_table.specs.Actions.{action_of, actions_in, Tracing, table_of, LaneTableBuilt}
 use Rattle.lane_table.proofs.Built as lanes
-use Rattle.actions.specs.declared.put.Acting.{Acting}
-use Rattle.actions.specs.declared.put.Acting.TheVariants.{Columns, TooMany}
 use Rattle.actions.specs.Puts.{InColumns, PutInto, ActionsPut}
-use Rattle.construct.specs.declared.Walked.{Walked}
-use Rattle.construct.specs.declared.Walked.TheVariants.{Done, Refused}
 use Rattle.merging.specs.Takes.{actions_for}
 use Rattle.merging.specs.Visits.{Resolvable, states_after, ResolvedTo, ResolvesBy}
 use Rattle.visits.specs.Visits.{Visitable, OnlyVisited, VisitedTo, Resolves}
 use Rattle.visits.proofs.Frames.{only_both, firsts_stay, visitable_again}
+
+-- ---- a value, or the refusal where there is none
+pub value_given : (a : Option ℕ) (why : BuildRefusal) (c : ℕ) → ok_or a why ≡ Ok c → a ≡ Some c
+value_given (Some d) why c is = cc
+value_given None why c is = let z : ◌≡◌ {A = ℕ} 0 1 = cc in absurd (omega arith)
+
+pub none_given : (a : Option ℕ) (why e : BuildRefusal) → ok_or a why ≡ Err e → (a ≡ None) × (e ≡ why)
+none_given (Some d) why e is = let z : ◌≡◌ {A = ℕ} 0 1 = cc in absurd (omega arith)
+none_given None why e is = (refl, cc)
 
 -- ---- `resolve` by its number of actions
 empty_list : {A : Type 0} (l : List A) → length l ≡ 0 → is_empty l ≡ true
@@ -100,7 +108,7 @@ module _ (bytes : List ℕ) (n count : ℕ) (state : StateIndex) (v : Room) (rea
   are_ours = ap (actions_at (records bytes)) (state_at v count state.0 low)
 
   -- the actions were put
-  module _ (a : Acting) (p : Room) (put : ActionsPut bytes state.0 v a p) where
+  module _ (a : Option ℕ) (p : Room) (put : ActionsPut bytes state.0 v a p) where
     put_placed : Placed size count p
     put_placed = same_placed v p (ap (λ (r : Room). r.entries) put.others) (ap (λ (r : Room). r.first_entries) put.others) (ap (λ (r : Room). r.sets) put.others) size count ready.placed
 
@@ -110,7 +118,7 @@ module _ (bytes : List ℕ) (n count : ℕ) (state : StateIndex) (v : Room) (rea
     put_only : OnlyVisited v p
     put_only = record { firsts = λ slot h. ap (λ (r : Room). set_at r slot) put.others; rest = ap (λ (r : Room). r.rest) put.others }
 
-    pub too_many : a ≡ TooMany → Resolves bytes n state.0 count v (Refused (Actions state)) p
+    pub too_many : a ≡ None → Resolves bytes n state.0 count v (Err (Actions state)) p
     unfolding states_after
     too_many e = record {
       outcome = sym (resolve_many (records bytes) (first_sets (records bytes)) state.0 (states_in v count) ours are_ours (subst (λ y. PutInto bytes ours y v p) e put.put));
@@ -118,11 +126,11 @@ module _ (bytes : List ℕ) (n count : ℕ) (state : StateIndex) (v : Room) (rea
       left = tt;
     }
 
-    module _ (c : ℕ) (came : a ≡ Columns c) where
+    module _ (c : ℕ) (came : a ≡ Some c) where
       in_columns : InColumns bytes ours c v p
       in_columns = subst (λ y. PutInto bytes ours y v p) came put.put
 
-      pub no_action : c ≡ 0 → Resolves bytes n state.0 count v (Done count) p
+      pub no_action : c ≡ 0 → Resolves bytes n state.0 count v (Ok count) p
       unfolding states_after
       no_action e = record {
         outcome = ap done put_states ∙ sym (resolve_none (records bytes) (first_sets (records bytes)) state.0 (states_in v count) ours are_ours (sym in_columns.count ∙ e));
@@ -165,15 +173,15 @@ module _ (bytes : List ℕ) (n count : ℕ) (state : StateIndex) (v : Room) (rea
         can_resolve = record { clean = ready.clean; counted = ready.counted; placed = lanes.built_placed bytes own state.0 p w built size count put_placed; narrow = in_columns.few; state = low }
 
         -- and the state resolved by it
-        module _ (r : Walked) (q : Room) (by : ResolvesBy bytes own state.0 w r q) where
+        module _ (r : Result ℕ BuildRefusal) (q : Room) (by : ResolvesBy bytes own state.0 w r q) where
           resolved_only : OnlyVisited v q
           resolved_only =
               only_both v w q (only_both v p w put_only built_only)
               (record { firsts = by.only.firsts; rest = ap (λ (r : Room). r.rest) by.only.others })
 
-          resolved_left : (r : Walked) → ResolvedTo bytes count r q → VisitedTo bytes n count r q
-          resolved_left (Done more) h = (visitable_again bytes n count more v q ready resolved_only h.placed, h.grown)
-          resolved_left (Refused why) h = tt
+          resolved_left : (r : Result ℕ BuildRefusal) → ResolvedTo bytes count r q → VisitedTo bytes n count r q
+          resolved_left (Ok more) h = (visitable_again bytes n count more v q ready resolved_only h.placed, h.grown)
+          resolved_left (Err why) h = tt
 
           pub resolved : (c ≡ 0 → ⊥) → Resolves bytes n state.0 count v r q
           resolved some = record {

@@ -4,6 +4,7 @@ use mathlib.Core.Path.{◌≡◌, refl, sym, ap, subst, ◌∙◌}
 use mathlib.Core.List.{List}
 use native.Mathlib.Omega.{arith}
 use lib.ListN.{length}
+use Rattle.std.specs.Prelude.{Result, Ok, Err}
 use Rattle.rules.specs.Limits.{limits, max_states}
 use Rattle.rules.specs.Records.{records}
 use Rattle.rules.specs.First.{first_sets}
@@ -14,10 +15,6 @@ use Rattle.room.specs.Areas.{Room, view}
 use Rattle.first.specs.Firsts.{firsts_in}
 use Rattle.states.specs.StatesIn.{states_in}
 use Rattle.states.proofs.States.{states_length}
-use Rattle.lr.specs.declared.Built.{Built}
-use Rattle.lr.specs.declared.Built.TheVariants.{States, Refused as NotBuilt}
-use Rattle.construct.specs.declared.Walked.{Walked}
-use Rattle.construct.specs.declared.Walked.TheVariants.{Done, Refused}
 use Rattle.merging.specs.Visits.{states_after}
 use Rattle.collection.specs.Collections.{Collectable, states_to, PlacedTo, OnlyCollected, StatesBuilt}
 use Rattle.visits.specs.Visits.{Visitable, OnlyVisited, VisitedTo, Resolves, ResolvesAll, Constructs}
@@ -39,7 +36,7 @@ module _ (bytes : List ℕ) (n states count next : ℕ) (v q : Room) (going : Go
   pub going_few : count ≤ max_states
   going_few = going.ready.placed.few
 
-  pub all_visited : count ≤ next → ResolvesAll bytes n states v (Done count) q
+  pub all_visited : count ≤ next → ResolvesAll bytes n states v (Ok count) q
   unfolding states_after
   all_visited end = record {
     outcome = sym (visit_ends bytes next (states_in q count) (omega (arith, going.inside, going.ready.placed.few)) (omega (arith, states_length q count)))
@@ -49,17 +46,17 @@ module _ (bytes : List ℕ) (n states count next : ℕ) (v q : Room) (going : Go
     left = (going.ready, going.grown);
   }
 
-  module _ (low : next < count) (r : Walked) (w : Room) (by : Resolves bytes n next count q r w) where
+  module _ (low : next < count) (r : Result ℕ BuildRefusal) (w : Room) (by : Resolves bytes n next count q r w) where
     inside_limit : next ≤ max_states
     inside_limit = omega (arith, going.ready.placed.few)
 
     among : next < length (states_in q count)
     among = omega (arith, states_length q count)
 
-    pub going_on : (many : ℕ) → r ≡ Done many → Going bytes n states many (next + 1) v w
+    pub going_on : (many : ℕ) → r ≡ Ok many → Going bytes n states many (next + 1) v w
     unfolding states_after
     going_on many is =
-        let left : VisitedTo bytes n count (Done many) w = subst (λ y. VisitedTo bytes n count y w) is by.left in
+        let left : VisitedTo bytes n count (Ok many) w = subst (λ y. VisitedTo bytes n count y w) is by.left in
         let e : next + 1 ≡ suc next = omega arith in
         record {
           ready = left.0;
@@ -71,7 +68,7 @@ module _ (bytes : List ℕ) (n states count next : ℕ) (v q : Room) (going : Go
               ∙ going.same;
         }
 
-    pub all_refused : (why : BuildRefusal) → r ≡ Refused why → ResolvesAll bytes n states v (Refused why) w
+    pub all_refused : (why : BuildRefusal) → r ≡ Err why → ResolvesAll bytes n states v (Err why) w
     unfolding states_after
     all_refused why is = record {
       outcome = sym (visit_refused bytes next (states_in q count) inside_limit among (states_after r w) by.outcome why (ap (λ y. states_after y w) is))
@@ -86,8 +83,8 @@ pub collected_only : (v q : Room) → OnlyCollected v q → OnlyVisited v q
 collected_only v q only = record { firsts = only.firsts; rest = ap (λ (r : Room). r.rest) only.others }
 
 module _ (bytes : List ℕ) (n m : ℕ) (work : List ℕ) (able : Collectable bytes n m work) (found : firsts_in (records bytes) (view work) ≡ first_sets (records bytes))
-    (b : Built) (q : Room) (built : StatesBuilt bytes (lr0_states limits (records bytes)) (view work) q b) where
-  pub lanes_not_built : (why : BuildRefusal) → b ≡ NotBuilt why → Constructs bytes (lanes limits (records bytes)) (view work) q (NotBuilt why)
+    (b : Result ℕ BuildRefusal) (q : Room) (built : StatesBuilt bytes (lr0_states limits (records bytes)) (view work) q b) where
+  pub lanes_not_built : (why : BuildRefusal) → b ≡ Err why → Constructs bytes (lanes limits (records bytes)) (view work) q (Err why)
   unfolding states_to PlacedTo lanes resolve_all
   lanes_not_built why is = record {
     outcome = ap (resolve_all limits (records bytes)) (sym (ap (states_to q) is) ∙ built.outcome);
@@ -95,7 +92,7 @@ module _ (bytes : List ℕ) (n m : ℕ) (work : List ℕ) (able : Collectable by
     only = collected_only (view work) q built.only;
   }
 
-  module _ (count : ℕ) (is : b ≡ States count) where
+  module _ (count : ℕ) (is : b ≡ Ok count) where
     pub can_visit : Visitable bytes n count q
     unfolding PlacedTo
     can_visit = record {
@@ -111,18 +108,22 @@ module _ (bytes : List ℕ) (n m : ℕ) (work : List ℕ) (able : Collectable by
     unfolding states_to lanes
     lanes_is = ap (resolve_all limits (records bytes)) (sym built.outcome ∙ ap (states_to q) is)
 
-    module _ (r : Walked) (w : Room) (all : ResolvesAll bytes n count q r w) where
+    module _ (r : Result ℕ BuildRefusal) (w : Room) (all : ResolvesAll bytes n count q r w) where
       both_only : OnlyVisited (view work) w
       both_only = only_both (view work) q w (collected_only (view work) q built.only) all.only
 
-      pub lanes_refused : (why : BuildRefusal) → r ≡ Refused why → Constructs bytes (lanes limits (records bytes)) (view work) w (NotBuilt why)
+      lanes_refused : (why : BuildRefusal) → r ≡ Err why → Constructs bytes (lanes limits (records bytes)) (view work) w (Err why)
       unfolding states_to PlacedTo states_after
       lanes_refused why came = record { outcome = sym (ap (λ y. states_after y w) came) ∙ all.outcome ∙ sym lanes_is; placed = tt; only = both_only }
 
-      pub lanes_done : (more : ℕ) → r ≡ Done more → Constructs bytes (lanes limits (records bytes)) (view work) w (States more)
+      lanes_done : (more : ℕ) → r ≡ Ok more → Constructs bytes (lanes limits (records bytes)) (view work) w (Ok more)
       unfolding states_to PlacedTo states_after
       lanes_done more came = record {
         outcome = sym (ap (λ y. states_after y w) came) ∙ all.outcome ∙ sym lanes_is;
         placed = (subst (λ y. VisitedTo bytes n count y w) came all.left).0.placed;
         only = both_only;
       }
+
+      pub lanes_end : (c : Result ℕ BuildRefusal) → r ≡ c → Constructs bytes (lanes limits (records bytes)) (view work) w c
+      lanes_end (Err why) = lanes_refused why
+      lanes_end (Ok more) = lanes_done more

@@ -1,5 +1,6 @@
 -- A visit of a state, and the visits of all states, in the room.
-use Rattle.std.specs.Prelude.{ℕ, ◌≤◌, ◌<◌, ◌≡◌, List, length}
+use Rattle.std.specs.Prelude.{ℕ, ◌≤◌, ◌<◌, ◌≡◌, List, length, Result, Ok, Err}
+use Rattle.rules.specs.declared.BuildRefusal.{BuildRefusal}
 use Rattle.rules.specs.Limits.{limits, max_bytes}
 use Rattle.rules.specs.Records.{records}
 use Rattle.rules.specs.Grammar.{terminal_count}
@@ -13,9 +14,6 @@ use Rattle.room.specs.Slots.{closure_slot}
 use Rattle.lookahead.specs.Sets.{set_at}
 use Rattle.first.specs.Firsts.{firsts_in}
 use Rattle.states.specs.StatesIn.{states_in, Placed}
-use Rattle.lr.specs.declared.Built.{Built}
-use Rattle.construct.specs.declared.Walked.{Walked}
-use Rattle.construct.specs.declared.Walked.TheVariants.{Done, Refused}
 use Rattle.merging.specs.Visits.{states_after}
 use Rattle.collection.specs.Collections.{states_to, PlacedTo}
 
@@ -33,25 +31,25 @@ pub record OnlyVisited (v q : Room) : Type 0 where
   pub firsts : (slot : ℕ) → slot < closure_slot 0 → set_at q slot ≡ set_at v slot
   pub rest : q.rest ≡ v.rest
 
-abbrev pub VisitedTo : List ℕ → ℕ → ℕ → Walked → Room → Type 0
-VisitedTo bytes n count (Done more) q = Visitable bytes n more q × (count ≤ more)
-VisitedTo bytes n count (Refused why) q = Unit {0}
+abbrev pub VisitedTo : List ℕ → ℕ → ℕ → Result ℕ BuildRefusal → Room → Type 0
+VisitedTo bytes n count (Ok more) q = Visitable bytes n more q × (count ≤ more)
+VisitedTo bytes n count (Err why) q = Unit {0}
 
 -- visits of the room v with `count` states gave r and the room q, as `after` says
-pub record Visited (bytes : List ℕ) (after : Outcome (List State)) (n count : ℕ) (v : Room) (r : Walked) (q : Room) : Type 0 where
+pub record Visited (bytes : List ℕ) (after : Outcome (List State)) (n count : ℕ) (v : Room) (r : Result ℕ BuildRefusal) (q : Room) : Type 0 where
   pub outcome : states_after r q ≡ after
   pub only : OnlyVisited v q
   pub left : VisitedTo bytes n count r q
 
 -- the visit of state s; those of all states
-abbrev pub Resolves : List ℕ → ℕ → ℕ → ℕ → Room → Walked → Room → Type 0
+abbrev pub Resolves : List ℕ → ℕ → ℕ → ℕ → Room → Result ℕ BuildRefusal → Room → Type 0
 Resolves bytes n s count v r q = Visited bytes (resolve limits (records bytes) (first_sets (records bytes)) s (states_in v count)) n count v r q
 
-abbrev pub ResolvesAll : List ℕ → ℕ → ℕ → Room → Walked → Room → Type 0
+abbrev pub ResolvesAll : List ℕ → ℕ → ℕ → Room → Result ℕ BuildRefusal → Room → Type 0
 ResolvesAll bytes n count v r q = Visited bytes (resolve_all limits (records bytes) (done (states_in v count))) n count v r q
 
 -- ---- the construction gave r and the room q, as `promised` says
-pub record Constructs (bytes : List ℕ) (promised : Outcome (List State)) (v q : Room) (r : Built) : Type 0 where
+pub record Constructs (bytes : List ℕ) (promised : Outcome (List State)) (v q : Room) (r : Result ℕ BuildRefusal) : Type 0 where
   pub outcome : states_to q r ≡ promised
   pub placed : PlacedTo (length (records bytes)) q r
   pub only : OnlyVisited v q

@@ -9,6 +9,7 @@ ghost use Rattle.words.specs.Bits.{IsBit};
 pub const WORD_BITS: usize = 64;
 
 // Only t.
+#[tactic(auto, using(crate::proofs::Shifts::shifted_one))]
 pub fn single_word(t: usize) -> u64
     requires { IsBit t }
     ensures { result ≡ single t }
@@ -17,6 +18,7 @@ pub fn single_word(t: usize) -> u64
 }
 
 // n and every number below it.
+#[tactic(auto, using(crate::proofs::Shifts::single_positive, crate::proofs::Shifts::all_is))]
 pub fn all_word(n: usize) -> u64
     requires { IsBit (n + 1) }
     ensures { result ≡ all n }
@@ -25,6 +27,7 @@ pub fn all_word(n: usize) -> u64
 }
 
 // t is in the set.
+#[tactic(auto, unfolding(rules::specs::Tokens::has))]
 pub fn word_has(s: u64, t: usize) -> bool
     requires { IsBit t }
     ensures { result ≡ has s t }
@@ -33,17 +36,20 @@ pub fn word_has(s: u64, t: usize) -> bool
 }
 
 // The set without t.
+#[tactic(auto, using(crate::proofs::Shifts::had_le, crate::proofs::Shifts::without_had, crate::proofs::Shifts::without_lacked))]
 pub fn word_without(s: u64, t: usize) -> u64
     requires { IsBit t }
     ensures { result ≡ without s t }
 {
     if word_has(s, t) {
-        return s - single_word(t);
+        s - single_word(t)
+    } else {
+        s
     }
-    s
 }
 
 // What is in either set.
+#[tactic(auto, unfolding(rules::specs::Tokens::join))]
 pub fn word_join(a: u64, b: u64) -> u64
     ensures { result ≡ join a b }
 {
@@ -51,6 +57,7 @@ pub fn word_join(a: u64, b: u64) -> u64
 }
 
 // Nothing is in both sets.
+#[tactic(auto, unfolding(rules::specs::Tokens::disjoint, rules::specs::Tokens::meet))]
 pub fn word_disjoint(a: u64, b: u64) -> bool
     ensures { result ≡ disjoint a b }
 {
@@ -58,6 +65,7 @@ pub fn word_disjoint(a: u64, b: u64) -> bool
 }
 
 // All that is in a is in b.
+#[tactic(auto, unfolding(rules::specs::Tokens::within, rules::specs::Tokens::meet))]
 pub fn word_within(a: u64, b: u64) -> bool
     ensures { result ≡ within a b }
 {

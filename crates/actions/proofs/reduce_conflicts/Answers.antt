@@ -6,5 +6,5 @@ use Rattle.actions.proofs.reduce_conflicts.Goals as goal
 pub returns-then-held_shifts-ne0 : goal.returns-then-held_shifts-ne0
 returns-then-held_shifts-ne0 c = search (rules, reduce_holds)
 
-pub returns : goal.returns
-returns c = search (rules, reduce_meets)
+pub returns-else-held_shifts-ne0 : goal.returns-else-held_shifts-ne0
+returns-else-held_shifts-ne0 c = search (rules, reduce_meets)

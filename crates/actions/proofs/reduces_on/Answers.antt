@@ -1,14 +1,7 @@
 -- `actions::reduces_on` meets its contract.
 use borrow.Author.Rules.{rules}
 use Rattle.states.proofs.Places.{item_fits}
-use Rattle.actions.proofs.Tests.{reduces_not, reduces_if}
 use Rattle.actions.proofs.reduces_on.Goals as goal
 
 pub at_end-requires : goal.at_end-requires
 at_end-requires c = search (rules, item_fits)
-
-pub returns-then-not-at_end : goal.returns-then-not-at_end
-returns-then-not-at_end c = search (rules, reduces_not)
-
-pub returns : goal.returns
-returns c = search (rules, reduces_if)

@@ -1,20 +1,16 @@
+-- `actions::shift_conflicts` meets its contract.
+use mathlib.Core.Path.{◌∙◌}
 use borrow.Author.Rules.{rules}
-use Rattle.base.proofs.EachLeft.{each_some_turn, each_some_found, each_some_end}
-use Rattle.states.proofs.Places.{run_behind}
-use Rattle.actions.proofs.Tests.{shift_start}
+use borrow.Author.Tests.{tests}
+use Rattle.base.proofs.Chains.{some_over}
+use Rattle.rules.specs.Records.{records}
+use Rattle.room.specs.Areas.{view}
+use Rattle.states.specs.StatesIn.{entry_in}
+use Rattle.actions.specs.Conflicting.{reduces_on}
+use Rattle.actions.proofs.Tests.{shift_whole}
 use Rattle.actions.proofs.shift_conflicts.Goals as goal
 
-pub loop-k-init : goal.loop-k-init
-loop-k-init c = (search rules, search (rules, shift_start))
-
-pub reduces_on-requires : goal.reduces_on-requires
-reduces_on-requires c = search (rules, run_behind)
-
-pub returns-then-reduces_on : goal.returns-then-reduces_on
-returns-then-reduces_on c = search (rules, each_some_found)
-
-pub loop-k-preserved : goal.loop-k-preserved
-loop-k-preserved c = search (rules, each_some_turn)
-
 pub returns : goal.returns
-returns c = search (rules, each_some_end)
+returns c =
+    some_over (reduces_on (records c.args.g.now) c.args.t) (entry_in (view c.args.work.now)) _ _ _ _ c.any.ensures.ran (λ x q b k. search (rules, tests))
+    ∙ shift_whole _ _ _ _ _

@@ -1,19 +1,14 @@
 -- `builder::build` meets its contract.
 use borrow.Author.Rules.{rules}
-use Rattle.builder.proofs.Calling.{bad_mode, short_room, known_coded, no_grammar, table_built}
+use Rattle.builder.proofs.Calling.{bad_mode, short_room, table_built}
 use Rattle.builder.proofs.build.Goals as goal
 
-pub returns-then-mode-gt1 : goal.returns-then-mode-gt1
-returns-then-mode-gt1 c = search (rules, bad_mode)
+pub returns-in_err-mode : goal.returns-in_err-mode
+returns-in_err-mode c = search (rules, bad_mode c.args.mode c.args.g.now c.args.table.now c.args.work.now c.in_err-mode.field-0.0 c.in_err-mode.ensures)
 
 pub returns-then-work-lt-WORK : goal.returns-then-work-lt-WORK
-returns-then-work-lt-WORK c = search (rules, short_room)
+returns-then-work-lt-WORK c =
+    search (rules, short_room c.args.mode c.args.g.now c.args.table.now c.args.work.now c.in_ok-mode.mode c.in_ok-mode.ensures)
 
-pub build_table-answer-requires : goal.build_table-answer-requires
-build_table-answer-requires c = search (rules, known_coded)
-
-pub returns-in-Refused : goal.returns-in-Refused
-returns-in-Refused c = search (rules, no_grammar)
-
-pub returns-in-Coded : goal.returns-in-Coded
-returns-in-Coded c = search (rules, table_built)
+pub returns : goal.returns
+returns c = search (rules, table_built c.args.mode c.args.g.now c.args.table.now c.args.work.now c.in_ok-mode.mode c.in_ok-mode.ensures)

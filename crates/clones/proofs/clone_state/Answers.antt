@@ -5,4 +5,4 @@ use Rattle.clones.proofs.clone_state.Goals as goal
 
 pub returns : goal.returns
 returns c = cloned_all _ _ _ _ _ _ _ _ _ _ _ _ _ refl c.first_entry-first.ensures c.end_entry.ensures refl c.first_entry-at.ensures
-    c.copy_entries.ensures c.end_state.ensures c.get_origin-original.ensures c.put_origin.ensures c.put_head.ensures
+    c.copy_entries.ensures c.end_state.ensures c.get-original.ensures c.put.ensures c.put-2.ensures

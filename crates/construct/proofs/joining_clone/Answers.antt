@@ -3,6 +3,7 @@ use Rattle.groups.proofs.Members.{columns_none, columns_both}
 use Rattle.construct.proofs.Changes.{closure_grouped}
 use Rattle.construct.proofs.Choices.{clone_found, clone_passed}
 use borrow.Author.Rules.{rules}
+use native.Mathlib.Omega.{arith}
 use Rattle.construct.proofs.joining_clone.Goals as goal
 
 pub loop-c-init : goal.loop-c-init
@@ -18,4 +19,4 @@ pub loop-c-preserved : goal.loop-c-preserved
 loop-c-preserved c = (search rules, search rules, search (rules, closure_grouped), search (rules, columns_both), search (rules, clone_passed))
 
 pub returns-clause-value : goal.returns-clause-value
-returns-clause-value c = search (rules, first_over)
+returns-clause-value c = let e = first_over _ _ _ _ c.loop-c.invariant.0 c.loop-c-test.false c.loop-c.invariant.4 in omega arith

@@ -1,12 +1,13 @@
-use Rattle.base.proofs.EachLeft.{each_all_turn, each_all_fails, each_all_end}
+-- `context_set::disjoint_behind` meets its contract.
 use borrow.Author.Rules.{rules}
+use borrow.Author.Tests.{tests}
+use Rattle.base.proofs.Chains.{each_over}
+use Rattle.rules.specs.Tokens.{disjoint}
+use Rattle.room.specs.Areas.{view}
+use Rattle.lookahead.specs.Sets.{set_at}
 use Rattle.context_set.proofs.disjoint_behind.Goals as goal
 
-pub returns-then-not-is_disjoint : goal.returns-then-not-is_disjoint
-returns-then-not-is_disjoint c = search (rules, each_all_fails)
-
-pub loop-other-preserved : goal.loop-other-preserved
-loop-other-preserved c = search (rules, each_all_turn)
-
 pub returns : goal.returns
-returns c = search (rules, each_all_end)
+returns c =
+    each_over (disjoint (set_at (view c.args.work.now) c.args.slot)) (set_at (view c.args.work.now)) _ _ _ _ c.all.ensures.ran
+    (λ x q b k. search (rules, tests))

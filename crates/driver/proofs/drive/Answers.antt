@@ -6,8 +6,8 @@ use Rattle.driver.proofs.drive.Goals as goal
 pub drive_coded-requires : goal.drive_coded-requires
 drive_coded-requires c = search (rules, known_coded)
 
-pub returns-in-Refused : goal.returns-in-Refused
-returns-in-Refused c = search (rules, no_grammar)
+pub returns-in_err-check_grammar : goal.returns-in_err-check_grammar
+returns-in_err-check_grammar c = search (rules, no_grammar)
 
-pub returns-in-Coded : goal.returns-in-Coded
-returns-in-Coded c = search (rules, coded_then)
+pub returns : goal.returns
+returns c = search (rules, coded_then)

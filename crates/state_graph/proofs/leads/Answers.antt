@@ -1,20 +1,19 @@
+-- `state_graph::leads` meets its contract.
 use borrow.Author.Rules.{rules}
-use Rattle.base.proofs.EachLeft.{each_some_turn}
-use Rattle.state_graph.proofs.Edges.{item_recorded, some_found, some_over}
+use borrow.Author.Tests.{tests}
+use Rattle.base.proofs.Chains.{some_over}
+use Rattle.rules.specs.Records.{records}
+use Rattle.room.specs.Areas.{view}
+use Rattle.states.specs.StatesIn.{entry_in}
+use Rattle.state_graph.specs.Graph.{leads_to, symbol_at}
+use Rattle.state_graph.proofs.Edges.{some_in_state}
 use Rattle.state_graph.proofs.Linking.{unlinked}
 use Rattle.state_graph.proofs.leads.Goals as goal
 
-pub returns-then-not-links : goal.returns-then-not-links
-returns-then-not-links c = search (rules, unlinked)
+pub returns-then-has : goal.returns-then-has
+returns-then-has c =
+    some_in_state _ _ _ _ _ _ c.first_entry.ensures c.end_entry.ensures
+    (some_over (leads_to (records c.args.g.now) c.args.state.0 (symbol_at c.args.g.now c.args.i)) (entry_in (view c.args.work.now)) _ _ _ _ c.any.ensures.ran (λ x q b k. search (rules, tests)))
 
-pub leads_by-requires : goal.leads_by-requires
-leads_by-requires c = search (rules, item_recorded)
-
-pub returns-then-leads_by : goal.returns-then-leads_by
-returns-then-leads_by c = search (rules, some_found)
-
-pub loop-k-preserved : goal.loop-k-preserved
-loop-k-preserved c = search (rules, each_some_turn)
-
-pub returns : goal.returns
-returns c = search (rules, some_over)
+pub returns-else-has : goal.returns-else-has
+returns-else-has c = search (rules, unlinked)

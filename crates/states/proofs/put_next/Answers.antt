@@ -3,8 +3,8 @@ use borrow.Author.Rules.{rules}
 use Rattle.states.proofs.Entries.{item_small, next_put}
 use Rattle.states.proofs.put_next.Goals as goal
 
-pub entry_of-requires : goal.entry_of-requires
-entry_of-requires c = search (rules, item_small)
+pub pack-requires : goal.pack-requires
+pack-requires c = search (rules, item_small)
 
 pub returns : goal.returns
 returns c = search (rules, next_put)

@@ -12,5 +12,5 @@ use Rattle.actions.proofs.put.put_shifts.Given as goal
 
 abbrev pub invariant-loop-t : goal.invariant-loop-t
 invariant-loop-t l =
-    (l.t ≤ l.n) × (l.c ≤ l.t) × (length l.work ≡ length l.initial.work) × Readable l.g l.work l.first l.end
-    × Added l.g (shifts_below (records l.g) (run_in (view l.initial.work) l.first l.end) l.t) 0 l.c (view l.initial.work) (view l.work)
+    (l.t ≤ l.run.terminals) × (l.c ≤ l.t) × (length l.work ≡ length l.initial.work) × Readable l.g l.work l.run.first l.run.end
+    × Added l.g (shifts_below (records l.g) (run_in (view l.initial.work) l.run.first l.run.end) l.t) 0 l.c (view l.initial.work) (view l.work)

@@ -1,5 +1,6 @@
 use native.Mathlib.Omega.{arith}
 use borrow.Author.Rules.{rules}
+use Rattle.std.proofs.lemmas.Result.{err_from_is_err_and}
 use Rattle.collection.proofs.Collecting.{collect_begins, collect_asks, collect_turns, collect_refused, collect_ends}
 use Rattle.collection.proofs.build.expand_all.Goals as goal
 
@@ -16,10 +17,10 @@ pub loop-next-smaller : goal.loop-next-smaller
 loop-next-smaller c = omega (arith, c.loop-next.invariant.able.few)
 
 pub loop-next-preserved : goal.loop-next-preserved
-loop-next-preserved c = search (rules, collect_turns)
+loop-next-preserved c = search (rules, collect_turns, c.in_ok-count.was)
 
-pub returns-in-Refused : goal.returns-in-Refused
-returns-in-Refused c = search (rules, collect_refused)
+pub returns-in_err-count : goal.returns-in_err-count
+returns-in_err-count c = let p = err_from_is_err_and c.from_residual.result c.from_residual.ensures.1 in rw (p.1, p.2) (search (rules, collect_refused, c.in_err-count.was))
 
 pub returns : goal.returns
 returns c = search (rules, collect_ends)

@@ -10,11 +10,11 @@ pub end_entry-last-requires : goal.end_entry-last-requires
 end_entry-last-requires c = search (rules, parent_below)
 
 pub append_kernel-requires-clause-long_enough : goal.append_kernel-requires-clause-long_enough
-append_kernel-requires-clause-long_enough c = let run = parent_run _ _ _ c.requires.0 c.requires.1 _ _ c.get_parent-parent.ensures c.parent_state-p.ensures _ _ c.first_entry-first.ensures c.end_entry-last.ensures in
+append_kernel-requires-clause-long_enough c = let run = parent_run _ _ _ c.requires.0 c.requires.1 _ _ c.get.ensures c.unpack-parent.ensures.state _ _ c.first_entry-first.ensures c.end_entry-last.ensures in
     (search rules, search rules, search (rules, run_before), search (rules, next_place))
 
 pub append_kernel-requires-clause-placed_run : goal.append_kernel-requires-clause-placed_run
-append_kernel-requires-clause-placed_run c = let run = parent_run _ _ _ c.requires.0 c.requires.1 _ _ c.get_parent-parent.ensures c.parent_state-p.ensures _ _ c.first_entry-first.ensures c.end_entry-last.ensures in
+append_kernel-requires-clause-placed_run c = let run = parent_run _ _ _ c.requires.0 c.requires.1 _ _ c.get.ensures c.unpack-parent.ensures.state _ _ c.first_entry-first.ensures c.end_entry-last.ensures in
     run
 
 pub returns : goal.returns

@@ -1,16 +1,12 @@
+-- `driver::runs::first_no_token` meets its contract.
 use borrow.Author.Rules.{rules}
-use Rattle.base.proofs.Turns.{first_turn, first_at, first_over}
-use Rattle.driver.proofs.Tokens.{tokens_start}
+use borrow.Author.Tests.{tests}
+use Rattle.base.proofs.Chains.{first_over_range}
+use Rattle.driver.specs.Results.{no_token}
+use Rattle.driver.proofs.Tokens.{first_token}
 use Rattle.driver.proofs.runs.first_no_token.Goals as goal
 
-pub loop-i-init : goal.loop-i-init
-loop-i-init c = search (rules, tokens_start)
-
-pub returns-then-no_token : goal.returns-then-no_token
-returns-then-no_token c = search (rules, first_at)
-
-pub loop-i-preserved : goal.loop-i-preserved
-loop-i-preserved c = search (rules, first_turn)
-
 pub returns : goal.returns
-returns c = search (rules, first_over)
+returns c =
+    let found = first_over_range (no_token c.terminal_count-n.result c.args.tokens.now) _ _ _ _ c.find.ensures.ran (search rules) (λ x q b k. search (rules, tests)) in
+    search (rules, first_token, found)

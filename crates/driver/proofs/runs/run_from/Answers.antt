@@ -8,5 +8,5 @@ loop-next-smaller c = search (rules, turn_less)
 pub loop-next-preserved : goal.loop-next-preserved
 loop-next-preserved c = (search (rules, turn_stands), search rules, search rules, search (rules, turn_left))
 
-pub returns-in-Ends : goal.returns-in-Ends
-returns-in-Ends c = search (rules, run_ends)
+pub returns-in-Break : goal.returns-in-Break
+returns-in-Break c = search (rules, run_ends)

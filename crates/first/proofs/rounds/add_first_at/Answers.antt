@@ -16,11 +16,11 @@ returns-then-at_start-clause-work_after c = rw (← c.at_start.ensures, c.if-at_
 pub returns-then-at_start-clause-value : goal.returns-then-at_start-clause-value
 returns-then-at_start-clause-value c = rw (← c.at_start.ensures, c.if-at_start.true) c.add_first.ensures.value
 
-pub returns-clause-work_after : goal.returns-clause-work_after
-returns-clause-work_after c = rw (← c.at_start.ensures, c.if-at_start.false)
+pub returns-else-at_start-clause-work_after : goal.returns-else-at_start-clause-work_after
+returns-else-at_start-clause-work_after c = rw (← c.at_start.ensures, c.if-at_start.false)
 
-pub returns-clause-only_firsts : goal.returns-clause-only_firsts
-returns-clause-only_firsts c = search (rules, only_none)
+pub returns-else-at_start-clause-only_firsts : goal.returns-else-at_start-clause-only_firsts
+returns-else-at_start-clause-only_firsts c = search (rules, only_none)
 
-pub returns-clause-value : goal.returns-clause-value
-returns-clause-value c = rw (← c.at_start.ensures, c.if-at_start.false)
+pub returns-else-at_start-clause-value : goal.returns-else-at_start-clause-value
+returns-else-at_start-clause-value c = rw (← c.at_start.ensures, c.if-at_start.false)

@@ -3,8 +3,8 @@ use borrow.Author.Rules.{rules}
 use Rattle.first.proofs.Begins.{ahead_left, ahead_joined}
 use Rattle.first.proofs.suffix.first1.Goals as goal
 
-pub returns-then-not-begin : goal.returns-then-not-begin
-returns-then-not-begin c = search (rules, ahead_left)
+pub returns-then-begin : goal.returns-then-begin
+returns-then-begin c = search (rules, ahead_joined)
 
-pub returns : goal.returns
-returns c = search (rules, ahead_joined)
+pub returns-else-begin : goal.returns-else-begin
+returns-else-begin c = search (rules, ahead_left)

@@ -1,18 +1,16 @@
+-- `grammar_check::naming::first_start` meets its contract.
+use mathlib.Core.Path.{◌∙◌}
+use native.Mathlib.Omega.{arith}
 use borrow.Author.Rules.{rules}
-use Rattle.base.proofs.ListLoops.{first_whole}
-use Rattle.base.proofs.Turns.{first_turn, first_at, first_over}
-use Rattle.rules.specs.Grammar.{first_start}
+use borrow.Author.Tests.{tests}
+use Rattle.base.proofs.Chains.{first_over_range}
+use Rattle.grammar_check.proofs.Ways.{first_of_all}
+use Rattle.rules.specs.Records.{records}
+use Rattle.rules.specs.Grammar.{names_start, first_start}
 use Rattle.grammar_check.proofs.naming.first_start.Goals as goal
 
-pub loop-i-init : goal.loop-i-init
-unfolding first_start
-loop-i-init c = search (rules, first_whole)
-
-pub returns-then-names_start : goal.returns-then-names_start
-returns-then-names_start c = search (rules, first_at)
-
-pub loop-i-preserved : goal.loop-i-preserved
-loop-i-preserved c = search (rules, first_turn)
-
 pub returns : goal.returns
-returns c = search (rules, first_over)
+unfolding first_start
+returns c =
+    first_over_range (names_start (records c.args.g.now)) _ _ _ _ c.find.ensures.ran (omega arith) (λ x q b k. search (rules, tests))
+    ∙ first_of_all (names_start (records c.args.g.now)) _ _ c.record_count.ensures.0

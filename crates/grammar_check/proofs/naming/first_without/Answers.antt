@@ -1,19 +1,17 @@
+-- `grammar_check::naming::first_without` meets its contract.
+use mathlib.Core.Path.{◌∙◌}
+use native.Mathlib.Omega.{arith}
 use borrow.Author.Rules.{rules}
-use Rattle.base.proofs.ListLoops.{first_whole}
-use Rattle.base.proofs.Turns.{first_turn, first_at, first_over}
+use borrow.Author.Tests.{tests}
+use Rattle.base.proofs.Chains.{first_over_range}
+use Rattle.grammar_check.proofs.Ways.{first_of_all}
+use Rattle.rules.specs.Records.{records}
 use Rattle.rules.specs.Grammar.{first_without}
 use Rattle.grammar_check.specs.Tests.{lacks_production}
 use Rattle.grammar_check.proofs.naming.first_without.Goals as goal
 
-pub loop-a-init : goal.loop-a-init
-unfolding first_without lacks_production
-loop-a-init c = search (rules, first_whole)
-
-pub returns-then-lacks_production : goal.returns-then-lacks_production
-returns-then-lacks_production c = search (rules, first_at)
-
-pub loop-a-preserved : goal.loop-a-preserved
-loop-a-preserved c = search (rules, first_turn)
-
 pub returns : goal.returns
-returns c = search (rules, first_over)
+unfolding first_without lacks_production
+returns c =
+    first_over_range (lacks_production (records c.args.g.now)) _ _ _ _ c.find.ensures.ran (omega arith) (λ x q b k. search (rules, tests))
+    ∙ first_of_all (lacks_production (records c.args.g.now)) _ _ c.nonterminal_count.ensures.0

@@ -6,8 +6,8 @@ use lib.ListN.{drop}
 use Rattle.base.specs.Lists.{greatest}
 use Rattle.rules.specs.Records.{records}
 use Rattle.grammar.specs.Tests.{count_named}
-use Rattle.grammar_numbers.specs.Tests.{highest_named}
+use Rattle.grammar_numbers.specs.Tests.{is_of_terminals, highest_named}
 use Rattle.grammar_numbers.proofs.counts.highest_named.Given as goal
 
 abbrev pub invariant-loop-i : goal.invariant-loop-i
-invariant-loop-i l = (l.i ≤ l.n) × (l.highest ≤ 65536) × (max l.highest (greatest (map (count_named l.terminals) (drop l.i (records l.g)))) ≡ highest_named l.terminals (records l.g))
+invariant-loop-i l = (l.i ≤ l.n) × (l.highest ≤ 65536) × (max l.highest (greatest (map (count_named (is_of_terminals l.kind)) (drop l.i (records l.g)))) ≡ highest_named (is_of_terminals l.kind) (records l.g))

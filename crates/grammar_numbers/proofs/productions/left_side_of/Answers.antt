@@ -1,15 +1,16 @@
+-- `grammar_numbers::productions::left_side_of` meets its contract.
 use borrow.Author.Rules.{rules}
-use Rattle.grammar_numbers.proofs.Halving.{halving_starts, halving_low, halving_high, halving_ends}
+use native.Mathlib.Omega.{arith}
+use Rattle.rules.specs.Records.{records}
+use Rattle.grammar_numbers.proofs.Halving.{comes_before, before_is, before_in_front, left_side_halved}
 use Rattle.grammar_numbers.proofs.productions.left_side_of.Goals as goal
 
-pub loop-low-init : goal.loop-low-init
-loop-low-init c = search (rules, halving_starts)
-
-pub loop-low-preserved-then-production-p : goal.loop-low-preserved-then-production-p
-loop-low-preserved-then-production-p c = search (rules, halving_low)
-
-pub loop-low-preserved : goal.loop-low-preserved
-loop-low-preserved c = search (rules, halving_high)
-
 pub returns : goal.returns
-returns c = search (rules, halving_ends)
+returns c =
+    let bytes = c.args.g.now in
+    let p = c.args.p in
+    let size = c.record_count-n.ensures.0 in
+    let found = c.partition_point.ensures.point (comes_before (records bytes) p)
+    (λ i b h k. search (rules, before_is))
+    (before_in_front bytes c.requires p _ size) in
+    (left_side_halved bytes c.requires p _ size _ c.partition_point.ensures.within found, omega arith)

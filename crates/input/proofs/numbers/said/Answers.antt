@@ -1,19 +1,19 @@
 -- `input::numbers::said` meets its contract: what is left of the word gives the same number.
-use Rattle.std.proofs.Common.{rules}
+use Rattle.std.proofs.Common.{rules, refl, ◌∙◌}
 use Rattle.input.proofs.Digits.{no_digits, digits_start, digits_turn, digits_fail, digits_end}
 use Rattle.input.proofs.numbers.said.Goals as goal
 
-pub returns-then-word-eq0 : goal.returns-then-word-eq0
-returns-then-word-eq0 c = search (rules, no_digits)
+pub returns-then-is_empty : goal.returns-then-is_empty
+returns-then-is_empty c = search (rules, no_digits)
 
-pub loop-i-init : goal.loop-i-init
-loop-i-init c = search (rules, digits_start)
+pub loop-byte-init : goal.loop-byte-init
+loop-byte-init c = search (rules, digits_start)
 
-pub returns-in_default : goal.returns-in_default
-returns-in_default c = search (rules, digits_fail, c.in_default.ensures)
+pub returns-in_err-n : goal.returns-in_err-n
+returns-in_err-n c = c.from_residual.ensures ∙ digits_fail c.args.word.now c.loop-byte.byte-index c.loop-byte.n _ _ c.loop-byte-test.true c.loop-byte.invariant c.in_err-n.ensures refl
 
-pub loop-i-preserved : goal.loop-i-preserved
-loop-i-preserved c = search (rules, digits_turn)
+pub loop-byte-preserved : goal.loop-byte-preserved
+loop-byte-preserved c = digits_turn c.args.word.now c.loop-byte.byte-index c.loop-byte.n _ _ c.loop-byte-test.true c.loop-byte.invariant c.in_ok-n.ensures c.in_ok-n.n refl
 
 pub returns : goal.returns
-returns c = search (rules, digits_end)
+returns c = digits_end c.args.word.now c.loop-byte.byte-index c.loop-byte.n _ c.loop-byte-test.false c.loop-byte.invariant

@@ -1,16 +1,14 @@
 -- `input::numbers::with_digit` meets its contract.
-use Rattle.std.proofs.Common.{rules}
-use Rattle.input.proofs.Digits.{below_digits, above_digits, too_large, digit_more}
+use Rattle.std.proofs.Common.{rules, ◌∙◌}
+use Rattle.input.proofs.Digits.{no_digit, product_too_large, digit_more}
 use Rattle.input.proofs.numbers.with_digit.Goals as goal
 
-pub returns-then-byte-lt48 : goal.returns-then-byte-lt48
-returns-then-byte-lt48 c = search (rules, below_digits)
+pub returns-then-not-is_ascii_digit : goal.returns-then-not-is_ascii_digit
+returns-then-not-is_ascii_digit c = no_digit c.args.n c.args.byte c.if-not-is_ascii_digit.ensures.cases
 
-pub returns-then-byte-gt57 : goal.returns-then-byte-gt57
-returns-then-byte-gt57 c = search (rules, above_digits)
-
-pub returns-then-digit-n : goal.returns-then-digit-n
-returns-then-digit-n c = search (rules, too_large)
+pub returns-in_err-checked_mul : goal.returns-in_err-checked_mul
+returns-in_err-checked_mul c = c.from_residual.ensures ∙ product_too_large c.args.n c.args.byte c.if-not-is_ascii_digit.ensures.cases c.in_err-checked_mul.ensures
 
 pub returns : goal.returns
-returns c = search (rules, digit_more)
+returns c =
+    digit_more c.args.n c.args.byte c.if-not-is_ascii_digit.ensures.cases c.checked_add.result _ _ c.in_ok-checked_mul.ensures.1 (search rules) c.checked_add.ensures

@@ -9,5 +9,5 @@ use Rattle.lane_table.proofs.action.trace_actions.Given as goal
 
 abbrev pub invariant-loop-c : goal.invariant-loop-c
 invariant-loop-c l =
-    (l.c ≤ l.columns) × (length l.work ≡ length l.initial.work) × Acting l.g l.lanes l.state.0 (view l.initial.work) (view l.work)
+    (l.c ≤ l.lanes.columns) × (length l.work ≡ length l.initial.work) × Acting l.g l.lanes l.state.0 (view l.initial.work) (view l.work)
     × (actions_rest l.g l.lanes l.state.0 (view l.initial.work) l.c (table_of l.lanes (view l.work)) ≡ actions_rest l.g l.lanes l.state.0 (view l.initial.work) 0 (table_of l.lanes (view l.initial.work)))

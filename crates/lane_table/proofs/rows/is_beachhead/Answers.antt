@@ -3,8 +3,8 @@ use borrow.Author.Rules.{rules}
 use Rattle.lane_table.proofs.Columns.{none_entered, some_entered}
 use Rattle.lane_table.proofs.rows.is_beachhead.Goals as goal
 
-pub returns-then-get_entered-eq0 : goal.returns-then-get_entered-eq0
-returns-then-get_entered-eq0 c = search (rules, none_entered)
+pub returns-then-get-ne0 : goal.returns-then-get-ne0
+returns-then-get-ne0 c = search (rules, some_entered)
 
-pub returns : goal.returns
-returns c = search (rules, some_entered)
+pub returns-else-get-ne0 : goal.returns-else-get-ne0
+returns-else-get-ne0 c = search (rules, none_entered)

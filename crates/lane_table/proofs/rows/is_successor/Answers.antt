@@ -1,16 +1,13 @@
+-- `lane_table::rows::is_successor` meets its contract.
+use mathlib.Core.Path.{◌∙◌}
 use borrow.Author.Rules.{rules}
-use Rattle.base.proofs.EachLeft.{each_some_end}
-use Rattle.lane_table.proofs.Columns.{successor_start, successor_turn, successor_found}
+use borrow.Author.Tests.{tests}
+use Rattle.base.proofs.Chains.{some_over}
+use Rattle.room.specs.Areas.{view}
+use Rattle.lane.specs.Table.{row_in}
+use Rattle.lane_table.proofs.Columns.{links, successor_whole}
 use Rattle.lane_table.proofs.rows.is_successor.Goals as goal
 
-pub loop-p-init : goal.loop-p-init
-loop-p-init c = (search rules, search (rules, successor_start))
-
-pub returns-then-has_successor : goal.returns-then-has_successor
-returns-then-has_successor c = search (rules, successor_found)
-
-pub loop-p-preserved : goal.loop-p-preserved
-loop-p-preserved c = search (rules, successor_turn)
-
 pub returns : goal.returns
-returns c = search (rules, each_some_end)
+unfolding row_in
+returns c = some_over (links c.args.state.0) (row_in (view c.args.work.now) c.args.lanes.columns) _ _ _ _ c.any.ensures.ran (λ x q b k. search (rules, tests)) ∙ successor_whole _ _ _ _

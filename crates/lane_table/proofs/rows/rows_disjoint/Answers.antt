@@ -1,16 +1,12 @@
+-- `lane_table::rows::rows_disjoint` meets its contract.
+use mathlib.Core.Path.{◌∙◌}
 use borrow.Author.Rules.{rules}
-use Rattle.base.proofs.EachLeft.{each_all_turn, each_all_fails, each_all_end}
-use Rattle.lane_table.proofs.Columns.{disjoint_start, row_disjoint}
+use borrow.Author.Tests.{tests}
+use Rattle.base.proofs.Chains.{each_over}
+use Rattle.room.specs.Areas.{view}
+use Rattle.lane.specs.Table.{row_in}
+use Rattle.lane_table.proofs.Columns.{is_disjoint, disjoint_whole}
 use Rattle.lane_table.proofs.rows.rows_disjoint.Goals as goal
 
-pub loop-s-init : goal.loop-s-init
-loop-s-init c = (search rules, search (rules, disjoint_start))
-
-pub returns-then-not-columns_disjoint : goal.returns-then-not-columns_disjoint
-returns-then-not-columns_disjoint c = search (rules, each_all_fails, row_disjoint)
-
-pub loop-s-preserved : goal.loop-s-preserved
-loop-s-preserved c = search (rules, each_all_turn, row_disjoint)
-
 pub returns : goal.returns
-returns c = search (rules, each_all_end)
+returns c = each_over is_disjoint (row_in (view c.args.work.now) c.args.lanes.columns) _ _ _ _ c.all.ensures.ran (λ x q b k. search (rules, tests)) ∙ disjoint_whole _ _ _

@@ -9,8 +9,8 @@ use Rattle.least_sets.proofs.rounds.round.Goals as goal
 pub loop-s-init : goal.loop-s-init
 loop-s-init c = (search rules, search rules, search (rules, only_none), search (rules, round_begins), search (rules, round_lacks))
 
-pub settle_state-new-requires : goal.settle_state-new-requires
-settle_state-new-requires c = (search rules, search (rules, ready_only), search rules, search rules)
+pub settle_state-lacked-requires : goal.settle_state-lacked-requires
+settle_state-lacked-requires c = (search rules, search (rules, ready_only), search rules, search rules)
 
 pub loop-s-preserved : goal.loop-s-preserved
 loop-s-preserved c = (
@@ -18,7 +18,7 @@ loop-s-preserved c = (
   search rules,
   search (rules, only_both),
   search (rules, fold_turn),
-  state_turn _ _ _ _ _ _ c.loop-s.lacked _ _ _ c.loop-s-test.true c.loop-s.invariant.4 c.settle_state-new.ensures.work_after c.settle_state-new.ensures.value c.either-lacked.ensures,
+  state_turn _ _ _ _ _ _ c.loop-s.lacked _ _ c.loop-s-test.true c.loop-s.invariant.4 c.settle_state-lacked.ensures.work_after c.settle_state-lacked.ensures.value,
 )
 
 pub returns-clause-work_after : goal.returns-clause-work_after

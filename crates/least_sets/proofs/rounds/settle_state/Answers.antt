@@ -18,8 +18,8 @@ overflow_sub-size c = search (rules, size_fits)
 pub loop-k-init : goal.loop-k-init
 loop-k-init c = (search rules, search rules, search rules, search (rules, only_none), search (rules, state_begins), search (rules, state_lacks))
 
-pub settle_entry-new-requires-clause-long_enough : goal.settle_entry-new-requires-clause-long_enough
-settle_entry-new-requires-clause-long_enough c = (search rules, search (rules, ready_only), (search rules, search (rules, entry_left)))
+pub settle_entry-lacked-requires-clause-long_enough : goal.settle_entry-lacked-requires-clause-long_enough
+settle_entry-lacked-requires-clause-long_enough c = (search rules, search (rules, ready_only), (search rules, search (rules, entry_left)))
 
 pub loop-k-preserved : goal.loop-k-preserved
 loop-k-preserved c = (
@@ -28,7 +28,7 @@ loop-k-preserved c = (
   search rules,
   search (rules, only_both),
   search (rules, fold_turn),
-  entry_turn _ _ _ _ _ _ _ c.loop-k.lacked _ _ _ c.loop-k-test.true c.loop-k.invariant.5 c.settle_entry-new.ensures.work_after c.settle_entry-new.ensures.value c.either-lacked.ensures,
+  entry_turn _ _ _ _ _ _ _ c.loop-k.lacked _ _ c.loop-k-test.true c.loop-k.invariant.5 c.settle_entry-lacked.ensures.work_after c.settle_entry-lacked.ensures.value,
 )
 
 pub returns-clause-work_after : goal.returns-clause-work_after

@@ -1,11 +1,7 @@
 -- `least_steps::give::give_entry` meets its contract.
 use borrow.Author.Rules.{rules}
-use Rattle.states.proofs.Places.{item_fits}
 use Rattle.least_steps.proofs.Tested.{passed_room, passed_says, joined_room, joined_says}
 use Rattle.least_steps.proofs.give.give_entry.Goals as goal
-
-pub is_given-requires : goal.is_given-requires
-is_given-requires c = search (rules, item_fits)
 
 pub returns-then-not-is_given-clause-work_after : goal.returns-then-not-is_given-clause-work_after
 returns-then-not-is_given-clause-work_after c = search (rules, passed_room)

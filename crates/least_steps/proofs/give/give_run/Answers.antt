@@ -1,12 +1,12 @@
 use borrow.Author.Rules.{rules}
-use Rattle.least_steps.proofs.Given.{given_none, given_placed, given_more, given_end, lacked_more, lacked_end}
+use Rattle.least_steps.proofs.Given.{given_none, next_placed, next_within, given_more, given_end, lacked_more, lacked_end}
 use Rattle.least_steps.proofs.give.give_run.Goals as goal
 
 pub loop-k-init : goal.loop-k-init
 loop-k-init c = search (rules, given_none)
 
-pub give_entry-new-requires : goal.give_entry-new-requires
-give_entry-new-requires c = search (rules, given_placed)
+pub give_entry-lacked-requires : goal.give_entry-lacked-requires
+give_entry-lacked-requires c = (search rules, search (rules, next_placed), search (rules, next_within))
 
 pub loop-k-preserved : goal.loop-k-preserved
 loop-k-preserved c = (search rules, search rules, search rules, search (rules, given_more), search (rules, lacked_more))

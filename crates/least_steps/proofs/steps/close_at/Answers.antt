@@ -5,8 +5,8 @@ use Rattle.least_steps.proofs.Frames.{only_both, only_put, few_terminals}
 use Rattle.least_steps.proofs.Moves.{open_here, closed_from_lem, closed_lacked}
 use Rattle.least_steps.proofs.steps.close_at.Goals as goal
 
-pub symbol_behind-x-requires : goal.symbol_behind-x-requires
-symbol_behind-x-requires c = search (rules, open_here)
+pub symbol_behind-a-requires : goal.symbol_behind-a-requires
+symbol_behind-a-requires c = search (rules, open_here)
 
 pub put_closing-requires-clause-long_enough : goal.put_closing-requires-clause-long_enough
 put_closing-requires-clause-long_enough c = search (rules, few_terminals)

@@ -1,23 +1,20 @@
+-- `lr::kernels::find_before` meets its contract.
 use borrow.Author.Rules.{rules}
-use Rattle.base.proofs.Turns.{first_turn, first_at, first_over}
-use Rattle.states.proofs.Places.{item_fits}
-use Rattle.lr.proofs.Walks.{before_start, before_read, place_fits}
+use borrow.Author.Tests.{tests}
+use Rattle.std.proofs.lemmas.Iterator.{serves_from_Range}
+use Rattle.base.proofs.Chains.{first_over_range}
+use Rattle.rules.specs.Records.{records}
+use Rattle.room.specs.Areas.{view}
+use Rattle.grammar.specs.Symbols.{symbol_named}
+use Rattle.lr.specs.Kernels.{stands_before, first_before}
+use Rattle.lr.proofs.Walks.{entry_ready}
 use Rattle.lr.proofs.kernels.find_before.Goals as goal
 
-pub loop-k-init : goal.loop-k-init
-loop-k-init c = (search rules, search rules, search (rules, before_start))
-
-pub item-i-requires : goal.item-i-requires
-item-i-requires c = search (rules, place_fits)
-
-pub before-requires : goal.before-requires
-before-requires c = search (rules, item_fits)
-
-pub returns-then-before : goal.returns-then-before
-returns-then-before c = search (rules, first_at, before_read)
-
-pub loop-k-preserved : goal.loop-k-preserved
-loop-k-preserved c = (search rules, search rules, search (rules, first_turn, before_read))
+pub find-requires-clause-callable : goal.find-requires-clause-callable
+find-requires-clause-callable c = serves_from_Range (λ x q k. search (rules, tests)) (λ x low high y is. let h = rw (← is) at low in let l = rw (← is) at high in let r = entry_ready _ _ _ _ y.now c.requires.0 c.requires.1 h l in search (rules, r))
 
 pub returns : goal.returns
-returns c = search (rules, first_over)
+unfolding first_before
+returns c =
+    first_over_range (stands_before (records c.args.g.now) (symbol_named c.args.symbol) (view c.args.work.now)) _ _ _ _ c.find.ensures.ran c.requires.1.ordered
+    (λ x q b k. search (rules, tests))

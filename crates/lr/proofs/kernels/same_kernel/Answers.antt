@@ -1,36 +1,21 @@
 use borrow.Author.Rules.{rules}
-use Rattle.lr.proofs.Compare.{walks_begin, walk_place, other_place, walk_next, other_next, walk_short, walk_differs, walk_falls, walk_turns, walk_ends}
+use Rattle.lr.proofs.Compare.{walks_left, one_more, entries_part, one_falls, walks_turn, walks_end}
 use Rattle.lr.proofs.kernels.same_kernel.Goals as goal
 
-pub loop-j-init : goal.loop-j-init
-loop-j-init c = search (rules, walks_begin)
+pub loop-one-init : goal.loop-one-init
+loop-one-init c = search (rules, walks_left)
 
-pub returns-then-last-k : goal.returns-then-last-k
-returns-then-last-k c = search (rules, walk_short)
-
-pub same_entry-requires : goal.same_entry-requires
-same_entry-requires c = search (rules, walk_place, other_place)
+pub returns-in_default-two : goal.returns-in_default-two
+returns-in_default-two c = search (rules, one_more)
 
 pub returns-then-not-same_entry : goal.returns-then-not-same_entry
-returns-then-not-same_entry c = search (rules, walk_differs)
+returns-then-not-same_entry c = search (rules, entries_part)
 
-pub overflow_add-j : goal.overflow_add-j
-overflow_add-j c = search (rules, walk_place)
+pub loop-one-smaller : goal.loop-one-smaller
+loop-one-smaller c = search (rules, one_falls)
 
-pub find_before-j-requires-in-loop-j : goal.find_before-j-requires-in-loop-j
-find_before-j-requires-in-loop-j c = search (rules, walk_next)
-
-pub overflow_add-k : goal.overflow_add-k
-overflow_add-k c = search (rules, other_place)
-
-pub find_before-k-requires-in-loop-j : goal.find_before-k-requires-in-loop-j
-find_before-k-requires-in-loop-j c = search (rules, other_next)
-
-pub loop-j-smaller : goal.loop-j-smaller
-loop-j-smaller c = search (rules, walk_falls)
-
-pub loop-j-preserved : goal.loop-j-preserved
-loop-j-preserved c = search (rules, walk_turns)
+pub loop-one-preserved : goal.loop-one-preserved
+loop-one-preserved c = search (rules, walks_turn)
 
 pub returns : goal.returns
-returns c = search (rules, walk_ends)
+returns c = search (rules, walks_end)

@@ -1,19 +1,15 @@
+-- `table_check::faults::reduces_shifted` meets its contract.
 use borrow.Author.Rules.{rules}
-use Rattle.table_check.proofs.Ways.{no_reduction}
-use Rattle.table_check.proofs.Passing.{scan_starts, scan_turn, scan_finds, scan_ends}
+use borrow.Author.Tests.{tests}
+use Rattle.base.proofs.Chains.{any_over_range}
+use Rattle.rules.specs.Table.{table_records, is_for}
+use Rattle.rules.specs.Drive.{table_at}
+use Rattle.table_check.proofs.Passing.{any_shifts}
 use Rattle.table_check.proofs.faults.reduces_shifted.Goals as goal
 
-pub returns-then-kind-ne-REDUCE : goal.returns-then-kind-ne-REDUCE
-returns-then-kind-ne-REDUCE c = search (rules, no_reduction)
-
-pub loop-j-init : goal.loop-j-init
-loop-j-init c = search (rules, scan_starts)
-
-pub returns-then-is_for : goal.returns-then-is_for
-returns-then-is_for c = search (rules, scan_finds)
-
-pub loop-j-preserved : goal.loop-j-preserved
-loop-j-preserved c = search (rules, scan_turn)
-
-pub returns : goal.returns
-returns c = search (rules, scan_ends)
+pub returns-then-own-eq-REDUCE : goal.returns-then-own-eq-REDUCE
+returns-then-own-eq-REDUCE c =
+    let rs = table_records c.args.t.now in
+    let own = c.key_at-own.result in
+    let found = any_over_range (λ j. is_for own.state 0 own.symbol (table_at rs j)) _ _ _ _ c.any.ensures.ran (λ x q b k. search (rules, tests)) in
+    any_shifts rs c.args.i c.record_count-count.result own c.any.result c.key_at-own.ensures c.if-own-eq-REDUCE.true c.record_count-count.ensures.0 found

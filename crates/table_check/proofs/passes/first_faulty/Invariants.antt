@@ -5,4 +5,4 @@ use Rattle.table_check.proofs.Passing.{Passed}
 use Rattle.table_check.proofs.passes.first_faulty.Given as goal
 
 abbrev pub invariant-loop-i : goal.invariant-loop-i
-invariant-loop-i l = (l.i ≤ l.count) × Passed l.n l.m l.p (table_records l.t) l.i
+invariant-loop-i l = (l.i ≤ l.count) × Passed l.sizes.terminals l.sizes.nonterminals l.sizes.productions (table_records l.t) l.i

@@ -15,8 +15,8 @@ own_symbol-x-requires c = search (rules, end_known)
 pub returns-then-not-before : goal.returns-then-not-before
 returns-then-not-before c = search (rules, other_tells)
 
-pub returns-then-targets-x-ne0 : goal.returns-then-targets-x-ne0
-returns-then-targets-x-ne0 c = search (rules, known_tells)
+pub returns-then-is_some : goal.returns-then-is_some
+returns-then-is_some c = let stands = rw c.symbol_of.ensures at c.before-2.ensures in search (rules, known_tells, stands)
 
 pub returns : goal.returns
-returns c = new_tells _ _ _ _ _ _ c.requires.2 _ c.item-i.ensures c.at_end.ensures _ _ c.if-at_end.false c.own_symbol-x.ensures.0 c.before-2.ensures (ap not c.if-not-before.false) _ c.if-targets-x-ne0.false c.own_target.ensures c.own_symbol-x.ensures.1
+returns c = new_tells _ _ _ _ _ _ c.requires.2 _ c.item-i.ensures c.at_end.ensures _ _ c.if-at_end.false c.own_symbol-x.ensures.0 (rw c.symbol_of.ensures at c.before-2.ensures) (ap not c.if-not-before.false) _ _ c.is_some.ensures c.if-is_some.false c.next.ensures c.own_symbol-x.ensures.1

@@ -1,6 +1,0 @@
--- `driver::moves::state_at` meets its contract.
-use native.Mathlib.Omega.{arith}
-use Rattle.driver.proofs.moves.state_at.Goals as goal
-
-pub overflow_cast-result : goal.overflow_cast-result
-overflow_cast-result c = omega (arith, c.shared_slice_known-1.given c.args.i)
