@@ -1,6 +1,6 @@
 -- The whole call: refusals 1 to 8, and what is left in the work room.
 use Prim.Native.Nat.{ℕ, ◌*◌, ◌<◌, ◌≤◌}
-use mathlib.Core.Path.{◌≡◌, sym, ap, subst, ◌∙◌}
+use mathlib.Core.Path.{◌≡◌, sym, ap, ◌∙◌}
 use mathlib.Core.Bool.{Bool}
 use mathlib.Core.List.{List}
 use native.Mathlib.Omega.{arith}
@@ -20,7 +20,7 @@ use Rattle.rules.specs.declared.TableSize.{TableSize}
 use Rattle.rules.specs.declared.BuildRefusal.TheVariants.{Mode as NoMode, WorkRoom, Grammar as NoGrammar}
 use Rattle.rules.specs.declared.Mode.{Mode}
 use Rattle.rules.specs.declared.Mode.TheVariants.{Lane, Canonical}
-use Rattle.rules.specs.Modes.{mode_number, GivesMode}
+use Rattle.rules.specs.Modes.{mode_number}
 use Rattle.rules.proofs.Rooms.{built_keeps_rest}
 use Rattle.grammar.proofs.Coded.{coded_faultless, terminal_count_below, nonterminal_count_below}
 use Rattle.room.specs.Areas.{view}
@@ -32,12 +32,6 @@ use Rattle.table_records.specs.Result.{gave_in}
 use Rattle.builder.specs.Results.{Gives}
 
 -- ---- what a number says of the mode
-pub mode_named : (number : ℕ) (r : Result Mode BuildRefusal) (mode : Mode) → GivesMode number r → r ≡ Ok mode → number ≡ mode_number mode
-mode_named number r mode given is = subst (GivesMode number) is given
-
-pub mode_not_named : (number : ℕ) (r : Result Mode BuildRefusal) (why : BuildRefusal) → GivesMode number r → r ≡ Err why → (1 < number) × (why ≡ NoMode)
-mode_not_named number r why given is = subst (GivesMode number) is given
-
 mode_known : (mode : Mode) → mode_number mode ≤ 1
 mode_known Lane = omega arith
 mode_known Canonical = omega arith
