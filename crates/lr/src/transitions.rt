@@ -40,6 +40,8 @@ fn parent_over(s: StateIndex, symbol: Symbol) -> u64
 }
 
 // The transition of state s over a symbol: a state with an equal kernel is reused, else the next number is given, and 9 is met there.
+// It stands in both loops of `add_transitions`: called once for each symbol it would take a quarter more of a large canonical build.
+#[inline(always)]
 fn add_transition(
     g: &[u8],
     symbol: Symbol,
