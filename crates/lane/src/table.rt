@@ -1,4 +1,4 @@
-// The cells of the lane table: table/mod.rs. The successors of its rows are `marks::successors`.
+// The cells of the lane table: table/mod.rs. The successors of its rows are the marks `marks::Successors`.
 ghost use Rattle.std.specs.Prelude.{◌≡◌};
 ghost use Rattle.room.specs.Areas.{view};
 ghost use Rattle.room.specs.Bounds.{LongEnough, IsState, IsColumn, IsSlot};
