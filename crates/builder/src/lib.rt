@@ -92,6 +92,7 @@ fn build_table(
 }
 
 // The builder's call: mode 0 is lane, 1 canonical. The mode is a number, since every other one has its refusal.
+#[tactic(auto, using(crate::proofs::Calling::bad_mode))]
 pub fn build(
     mode: u64,
     g: &[u8],

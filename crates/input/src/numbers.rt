@@ -3,6 +3,7 @@ ghost use Rattle.std.specs.Prelude.{◌≡◌};
 ghost use Rattle.input.specs.Numbers.{with_digit, number_said};
 
 // The number with one more digit behind it; none if the byte is no digit, or the number has more than 64 bits.
+#[tactic(auto, using(crate::proofs::Digits::no_digit))]
 fn with_digit(n: u64, byte: u8) -> Option<u64>
     ensures { result ≡ with_digit n byte }
 {

@@ -1,10 +1,7 @@
 -- `builder::build` meets its contract.
 use borrow.Author.Rules.{rules}
-use Rattle.builder.proofs.Calling.{bad_mode, short_room, table_built}
+use Rattle.builder.proofs.Calling.{short_room, table_built}
 use Rattle.builder.proofs.build.Goals as goal
-
-pub returns-in_err-mode : goal.returns-in_err-mode
-returns-in_err-mode c = search (rules, bad_mode c.args.mode c.args.g.now c.args.table.now c.args.work.now c.in_err-mode.field-0.0 c.in_err-mode.ensures)
 
 pub returns-then-work-lt-WORK : goal.returns-then-work-lt-WORK
 returns-then-work-lt-WORK c =
