@@ -37,6 +37,7 @@ fn number(cases: &[u8], i: usize) -> u64
 // The shared bytes that two numbers from byte i on name; none where there are not as many.
 fn shared_part(cases: &[u8], i: usize) -> &[u8]
     requires { Within i 8 cases.now }
+    ensures { length result.now ≤ length cases.now }
 {
     let from = 4 + number(cases, i) as usize;
     let to = from + number(cases, i + 4) as usize;
